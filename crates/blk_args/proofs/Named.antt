@@ -52,12 +52,12 @@ limits_some parts limits are = ap (option_and_then (with_task parts.ordinary)) a
 in_turn : (parts : Parts) → ℕ → Option Bounds
 in_turn parts bytes = option_and_then (allowed bytes) (at_most_once 65536 parts.counts)
 
--- no bytes can be told
+-- where the limit of bytes can't be read, the arguments ask for nothing
 pub bytes_none : (parts : Parts) → at_most_once 83886080 parts.maxes ≡ None → asked_by parts ≡ None
 unfolding limits_in in_turn
 bytes_none parts none = limits_none parts (ap (option_and_then (in_turn parts)) none)
 
--- no number of items can be told
+-- where the limit of items can't be read, the arguments ask for nothing
 pub items_none : (parts : Parts) → at_most_once 65536 parts.counts ≡ None → asked_by parts ≡ None
 unfolding limits_in in_turn
 items_none parts none = limits_none parts (and_none (in_turn parts) (at_most_once 83886080 parts.maxes) (λ bytes. ap (option_and_then (allowed bytes)) none))

@@ -132,7 +132,7 @@ module _ (cache : Cache) (state : State) (image : Image) (k : HoldsState cache s
           ∙ says.sizes stream (stream-below cache handle stream passes) (ap (λ (o : Object). is_sparse o.shape && nat_lt 0 stream) (sym its-object) ∙ sym (kept-same head h) ∙ free);
     }
 
--- where the cache keeps a state the record that a handle is bound to checks
+-- where the cache keeps a state, the record that a handle is bound to has a matching checksum or none
 pub asked-checks : (cache : Cache) (told : Told) (handle : ℕ) (b : Binding) → binding_of cache.handles handle ≡ Some b → TellsBytes told → ForSome told.files (KeepsAny cache) → ForSome told.files (RecordChecks b.entry)
 asked-checks cache told handle b bound bytes any image there = let one : KeepsAny cache image = any image there in entry-checks cache one.0 image one.1 handle 0 b bound (bytes image there)
 
@@ -158,6 +158,6 @@ none-there bindings handle r e none = by (binding_of bindings handle) refl where
 pub opened-stands : (files : BlockFiles) (bindings : Bindings) → AreBoundAmong files bindings → (handle : ℕ) (object : OpenObject) → IsOpened bindings handle object → (is_node_among files object.node ≡ true) × (is_record_among files object.entry ≡ true)
 opened-stands files bindings stand handle object o = subst (λ (x : OpenObject). (is_node_among files x.node ≡ true) × (is_record_among files x.entry ≡ true)) (sym o.opened) (stand handle o.b o.bound)
 
--- an answer that there is none, where nothing early tells so
+-- an answer that there is none, where no early refusal says so
 pub none-early : (bindings : Bindings) (handle stream : ℕ) (P : Refusal → Type 0) → early_stream_refusal bindings handle stream ≡ None → IfSome (early_stream_refusal bindings handle stream) P
 none-early bindings handle stream P e = subst (λ (o : Option Refusal). IfSome o P) (sym e) tt

@@ -210,7 +210,7 @@ module _ (state : State) (layout : Layout) (unlinked : List ℕ) (image : Image)
   pub bound-loads : LoadsWith b.entry is.loaded image
   bound-loads = subst (λ (w : ℕ). LoadsWith w is.loaded image) (sym is.entry) (kept-load state layout unlinked image b.node is.loaded k bound-node)
 
-  -- its record checks
+  -- its record has a matching checksum or none
   pub bound-checks : AreBytes image → RecordChecks b.entry image
   bound-checks bytes =
       load-then {P = RecordChecks b.entry image} (store_of image) (rule_of layout b.node) b.node is.loaded (k.represents.holds.shows.each b.node is.loaded bound-node)

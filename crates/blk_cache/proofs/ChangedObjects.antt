@@ -71,7 +71,7 @@ named-changed t number o p named base (suc i) e (None ∷ slots) here = named-ch
 named-changed t number o p named base (suc i) e (Some x ∷ slots) here =
     one-later o p x (is_named t base) (named_from t (base + 1) slots) (named_from t (base + 1) (set slots i (Some p))) (named-changed t number o p named (base + 1) i (omega (arith, e)) slots here)
 
--- a change of marks leaves which objects are open
+-- a change of flags leaves which objects are open
 pub entries-same : (change : Binding → Binding) → ((b : Binding) → (change b).entry ≡ b.entry) → (entry : ℕ) (bindings : Bindings) → entries_of (with_change change entry bindings) ≡ entries_of bindings
 entries-same change same entry [] = refl
 entries-same change same entry (None ∷ bindings) = ap (λ (l : List (Option ℕ)). None ∷ l) (entries-same change same entry bindings)
@@ -161,7 +161,7 @@ module _ (cache : Cache) (state : State) (from : Image) (k : HoldsState cache st
         dirty = dirty;
       }
 
-  -- where its names keep their marks
+  -- where its names keep their flags
   pub names-stay : other.settled ≡ object.settled → (name : ℕ) → IsBoundAs next there (named_by state name) (binding_of cache.handles name)
   names-stay settled name = by (named_by state name) (binding_of cache.handles name) (k.names name) where
     by : (o : Option ℕ) (d : Option Binding) → IsBoundAs state k.layout o d → IsBoundAs next there o d

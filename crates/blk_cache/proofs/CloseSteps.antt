@@ -1,4 +1,4 @@
--- A Close, from the moments of the dirty word.
+-- A Close, from the moments of the dirty flag.
 use Rattle.blk_io.specs.declared.fault.Fault.{Fault}
 use Rattle.std.proofs.Common.{◌≡◌, ⊎_elim, Result, ℕ, zero, suc, ◌-◌, ◌<◌, ◌^◌, Bool, true, false, List, [], ◌∷◌, set, get_or, Option, Some, None, refl, sym, ap, subst, ◌∙◌, arith}
 use Rattle.std.specs.Prelude.{IfSome, OnOk, if◌then◌else◌, is_some, nat_le, not}
@@ -215,7 +215,7 @@ module _ (cache : Cache) (handle : ℕ) (small : handle < 2 ^ 16) (b : Binding) 
         ends : (step state moment (to_close handle)).state ≡ turned state (n image here state k) (it image here state k).object true (set state.names handle None)
         ends = closes-settle state moment handle (n image here state k) (it image here state k).object k.kept.entries.valid (is-last image here state k)
 
-        -- the dirty word was made 0
+        -- the dirty flag was made 0
         marked-end : (i : Image) → now.files ≡ Some i → ForSome mid.files (λ from. Applies mid now (mark_steps from b.node 0)) → HoldsState new (step state moment (to_close handle)).state i
         marked-end i there steps =
             let well = λ (z : Image) (at : mid.files ≡ Some z). subst HasSoundHeaders (some_inj (sym (mid-here image here state k) ∙ at)) k.kept.entries.sound in

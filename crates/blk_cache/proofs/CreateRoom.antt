@@ -54,7 +54,7 @@ left-behind i j list apart there =
     let z : ◌≡◌ {A = ℕ} (cond (same_item i j) 1 0) 0 = ap (λ (b : Bool). cond {A = ℕ} b 1 0) apart in
     omega (arith, c, z, there)
 
--- each listed item that need not stay is in a group that could be evicted
+-- each listed item that need not stay is in an eviction unit that could be evicted
 goes : (stays : Item → Bool) (list : List Item) (item : Item) → 1 ≤ times item list → stays item ≡ false → is_out (groups_from_back stays list) item ≡ true
 unfolding groups_from_back
 goes stays [] item there free = let none : times item [] ≡ 0 = refl in absurd (omega (arith, there, none))
@@ -86,7 +86,7 @@ either-not : (a b : Bool) → (a ≡ true → ⊥) → b ≡ false → (a || b) 
 either-not true b never e = absurd (never refl)
 either-not false b never e = e
 
--- a part that need not go is in none of the groups, where its main item need not
+-- a part that need not go is in none of the eviction units, where its main item need not
 pub loose-part : (stays : Item → Bool) (groups : List Group) (key : List ℕ) (n : ℕ) → AllByRecursion (IsLoose stays) groups → stays (part key n) ≡ true → stays (main key) ≡ true → is_out groups (part key n) ≡ false
 loose-part stays [] key n all held main_held = refl
 loose-part stays (whole other parts ∷ groups) key n all held main_held =
@@ -100,7 +100,7 @@ alike true false o e = e
 alike false true o e = sym e
 alike false false o e = refl
 
--- groups are evicted until there is enough, or all are
+-- eviction units are evicted until there is enough, or all are
 shortest-ends : (enough : List Group → Bool) (done groups : List Group) → (enough (shortest enough done groups) ≡ true) ⊎ (shortest enough done groups ≡ done ++ groups)
 shortest-ends enough done [] = inr (sym (append-nil done))
 shortest-ends enough done (group ∷ groups) = ⊎_elim
@@ -129,7 +129,7 @@ slots-stay [] = refl
 slots-stay (None ∷ slots) = ap (λ (l : List (Option Object)). None ∷ l) (slots-stay slots)
 slots-stay (Some o ∷ slots) = ap₂ (λ (s : Option Object) (l : List (Option Object)). s ∷ l) (none-left o) (slots-stay slots)
 
--- the objects of a state without groups
+-- the objects of a state without eviction units
 pub objects-without : (state : State) (groups : List Group) → (without groups state).objects ≡ map (option_and_then (left_of groups)) state.objects
 unfolding without
 objects-without state [] = sym (slots-stay state.objects)
@@ -152,7 +152,7 @@ times-back : (item : Item) (list : List Item) → times item (reverse list) ≡ 
 times-back item list = sum_by-IsPermutation (λ i. cond (same_item item i) 1 0) list (reverse list) (IsPermutation-reverse list)
 
 module _ (state : State) (valid : IsValidState state) (covered : List Item) where
-  -- all groups that could be evicted
+  -- all eviction units that could be evicted
   abbrev all : List Group
   all = groups_from_back (is_pinned state covered) (reverse state.uses)
 

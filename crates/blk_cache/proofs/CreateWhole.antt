@@ -44,12 +44,12 @@ if-any (Ok a) P all = tt
 if-any (Err fault.Device) P all = tt
 if-any (Err (fault.Damaged damage)) P all = all damage
 
--- an observable folder reports no corruption, where that is so of each that it may tell
+-- an observable folder reports no corruption, where that is so of all files that it may have
 pub untold-by : {A : Type 0} (r : Result A Fault) (files : Option Image) → ((image : Image) → files ≡ Some image → IfDamaged r (λ _. files ≡ None)) → IfDamaged r (λ _. files ≡ None)
 untold-by r None all = if-any r (λ _. None ≡ None) (λ damage. refl)
 untold-by r (Some image) all = all image refl
 
--- ---- refusals and groups
+-- ---- refusals and eviction units
 
 module _ (moment handle : ℕ) (key : List ℕ) where
   room-is : (state : State) → no_room moment (to_create handle key) state ≡ is_full (room state [] (length key) 1)
@@ -118,7 +118,7 @@ room-groups cache told moment handle key parts P none passes holds image there s
 
 -- ---- steps
 
--- a call that passes tells its files at the end where they were told
+-- after a call that passes a folder is observable where it was before
 pub there-after : (told mid : Told) (P : Image → Type 0) → Passes told mid P → (image : Image) → told.files ≡ Some image → (from : Image) × (mid.files ≡ Some from)
 there-after told mid P p image there = (after p.steps image, p.applies.files ∙ ap (option_map (after p.steps)) there)
 
@@ -178,7 +178,7 @@ pub only-done : (r : Result Answer Fault) (P : Type 0) → IfOk r (λ given. giv
 only-done (Ok given) P done = λ refused. absurd (subst IsRefused done refused)
 only-done (Err e) P done = tt
 
--- from one claim of an answer to another
+-- from one property of an answer to another
 pub if_ok_weaker : {A : Type 0} (r : Result A Fault) {P Q : A → Type 0} → ((a : A) → P a → Q a) → IfOk r P → IfOk r Q
 if_ok_weaker (Ok a) weaker holds = weaker a holds
 if_ok_weaker (Err e) weaker holds = tt

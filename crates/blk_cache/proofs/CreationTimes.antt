@@ -47,7 +47,7 @@ pub made-moment : (moment : ℕ) (image : Image) → moment < 2 ^ 64 → IsMade 
 made-moment moment image fits made =
     ap (λ (o : Option (List ℕ)). create_time_of (content (unwrap_or o []))) made.index ∙ moment-there moment (zeros index_length) fits (let long = length-zeros index_length in omega (arith, long))
 
--- nothing is to be repaired of it but words of the index
+-- recovery writes nothing of it but words of the index
 pub made-needs : (scan : Scan) (image : Image) → IsJustMade image → IsEmptyScan scan → NeedsOnlyWords scan image
 made-needs scan image made empty =
     let bare = new-bare made.0 image made.1 in
@@ -91,7 +91,7 @@ counting-keeps items bytes id image =
 crash-keeps : (value : ℕ) (image : Image) → WasMadeAt (create_time_of (byte image Index)) (after (word_step Index crash_place value) image)
 crash-keeps value image = two-words image (after (word_step Index crash_place value) image) (step-beside image crash_place value 40 (inr (lit≤ tt))) (step-beside image crash_place value 44 (inr (lit≤ tt)))
 
--- what steps keep of the files that are told, they have in the end
+-- what steps keep of the observed files, these have in the end
 kept-after : {a b : Told} (steps : List TrailStep) (from : Image) → a.files ≡ Some from → Applies a b steps → WasMadeAt (create_time_of (byte from Index)) (after steps from) → ForSome b.files (WasMadeAt (create_time_of (byte from Index)))
 kept-after {a} {b} steps from there made kept =
     let P : Image → Type 0 = WasMadeAt (create_time_of (byte from Index)) in told_whole P made (λ image is. subst (λ (i : Image). P (after steps i)) (some_inj (sym there ∙ is)) kept)

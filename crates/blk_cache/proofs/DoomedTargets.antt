@@ -104,11 +104,11 @@ module _ {held : Bool} (state : State) (layout : Layout) (image : Image) (number
       let same : o.object ≡ object = some_inj (sym o.here ∙ ap (object_at state) numbers ∙ t.here) in
       ap (λ (x : Object). x.parts) (sym same) ∙ none
 
-  -- and it has none where its kind tells no index
+  -- and it has none where its kind has no index
   pub parts-none : has_index target.kind ≡ false → object.parts ≡ []
   parts-none none = no-parts (plain-kind was.role (ap has_index t.kind ∙ none) no-part)
 
-  -- it has an index where its kind tells one
+  -- it has an index where its kind has one
   pub parent-kind : has_index target.kind ≡ true → kind_of_role was.role ≡ kinds.Parent
   parent-kind some = index-kind was.role (ap has_index t.kind ∙ some)
 

@@ -1,4 +1,4 @@
--- Where a cache keeps a state its folder may be written, and ends sound where no name is bound.
+-- Where a cache keeps a state its folder may be written, and ends consistent where no name is bound.
 use Rattle.std.proofs.Common.{◌≡◌, inl, inr, ℕ, length, Option, Some, None, refl, ◌∙◌, subst, arith, false}
 use Rattle.std.specs.Option.{ForSome}
 use Rattle.spec_image.specs.Image.{Image, Index, byte, word}
@@ -42,7 +42,7 @@ free-unnamed : (cache : Cache) (state : State) (image : Image) → HoldsState ca
 free-unnamed cache state image k free number =
     none-among state.names number (λ i. free-named state k.layout (named_by state i) (subst (λ (o : Option Binding). IsBoundAs state k.layout (named_by state i) o) (free i) (k.names i)))
 
--- then it is repaired
+-- then the folder is as recovery leaves it
 module _ (cache : Cache) (state : State) (from image : Image) (keeps-it : KeepsState cache state from) (free : AreAllFree cache.handles) (outside : SameOutside (one_word Index 32) from image) where
   k : HoldsState cache state from
   k = keeps-it.holds

@@ -1,4 +1,4 @@
--- What a cache keeps once a group is out of its folder.
+-- What a cache keeps once an eviction unit is out of its folder.
 use Rattle.std.proofs.Common.{◌≡◌, ◌-◌, [], ◌∷◌, ap, ◌∙◌, arith}
 use Rattle.spec_image.specs.Image.{Image}
 use Rattle.blk_model.specs.Room.{without}

@@ -1,4 +1,4 @@
--- Groups that are evicted one after another: what has gone as the loop goes.
+-- Eviction units that are evicted one after another: what has gone as the loop goes.
 use Rattle.std.proofs.Common.{◌≡◌, ◌⊎◌, ℕ, ◌+◌, ◌≤◌, Bool, true, false, not, ◌||◌, cond, List, [], ◌∷◌, ◌++◌, length, map, Option, Some, None, Result, Ok, Err, refl, sym, ap, subst, ◌∙◌, arith, inl, inr, append_assoc, append-nil, ⊎_elim}
 use Rattle.std.specs.Option.{ForSome, option_map}
 use Rattle.std.specs.List.{AllByRecursion, filter, flat_map}
@@ -44,7 +44,7 @@ use Rattle.blk_evict.proofs.RoomCounts.{counted-less}
 use Rattle.blk_evict.proofs.RoomGroups.{covered-one, last-next, nothing-more, of-named-stay, others-next, pinned-before, without-none}
 use Rattle.blk_evict.proofs.RoomTexts.{appends-after, appends-longer, none-printed, printed-on}
 
--- ---- what stays after the group that is evicted
+-- ---- what stays after the eviction unit that is evicted
 
 clash : true ≡ false → ⊥
 clash h = cc
@@ -53,7 +53,7 @@ or-none : (b : Bool) → b ≡ false → (b || false) ≡ false
 or-none true e = e
 or-none false e = refl
 
--- an item that is pinned isn't in the group of one that isn't
+-- an item that is pinned isn't in the eviction unit of one that isn't
 stays : (state : State) (covered : List Item) (item : Item) (front : List Item) (other : Item) → AreOfNamed state covered → is_pinned state covered item ≡ false → is_pinned state covered other ≡ true → is_out (group_for item front ∷ []) other ≡ false
 stays state covered (part key n) front (main other) named un pinned = refl
 stays state covered (main key) front (main other) named un pinned = or-none (bytes_eq key other) (⊎_elim
@@ -148,7 +148,7 @@ pub record KeepsFrom (cache : Cache) (state : State) (covered : List Item) (part
   pub lie : LieCovered state kept.layout covered parts
   pub pinned : IsPinnedFrom state kept.layout covered behind
 
--- so far the first groups are out, and printed
+-- so far the first eviction units are out, and printed
 pub record HasEvicted (enough : State → Bool) (state : State) (covered : List Item) (parts : Covered) (old new : Cache) (behind : Option ℕ) (turns : ℕ) (told now : Told) (failed_before failed : Bool) (w0 w1 : Option (List ℕ)) : Type 0 where
   pub first : List Group
   pub others : List Group
@@ -227,7 +227,7 @@ module _ (enough : State → Bool) (state : State) (covered : List Item) (parts 
   pub so-far-passes : (later : Told) → later ≡ now → Passes told later (IsEvicting (evicted_until enough state covered) state)
   so-far-passes later same = subst (λ (t : Told). Passes told t (IsEvicting (evicted_until enough state covered) state)) (sym same) h.passes
 
-  -- the next group
+  -- the next eviction unit
   module _ (wants : enough (without h.first state) ≡ false) (found : Unpinned) (last : IsLastAt (without h.first state) h.at.kept.layout covered found) where
     abbrev pub group : Group
     group = group_for last.goes.item last.goes.front
@@ -302,7 +302,7 @@ any-damaged (Err (Damaged damage)) P all = all damage
 none-some : (image : Image) → ◌≡◌ {A = Option Image} (Some image) None → ⊥
 none-some image e = cc
 
--- a call on a folder that tells nothing more than on one that told its files before, and tells them still
+-- where a call after another one reports corruption of an opaque folder alone, the folder was opaque before both
 pub untold-on : {A : Type 0} (result : Result A Fault) (told now : Told) (P : Image → Type 0) → (told.files ≡ None → now.files ≡ None) → ((from : Image) → told.files ≡ Some from → (image : Image) × (now.files ≡ Some image) × P image)
     → (ForSome now.files P → IfDamaged result (λ _. now.files ≡ None)) → IfDamaged result (λ _. told.files ≡ None)
 untold-on {A} result told now P silent holds call = go told.files refl where

@@ -1,4 +1,4 @@
--- A Flush, from what it does to the mark of its object.
+-- A Flush, from what it does to the dirty flag of its object.
 use Rattle.std.proofs.Common.{◌≡◌, ℕ, ◌<◌, Bool, true, false, not, [], Option, Some, None, refl, sym, ap, subst, ◌∙◌, arith}
 use Rattle.std.specs.Prelude.{◌^◌, IfSome, nat_le}
 use Rattle.std.specs.Option.{ForSome}
@@ -86,7 +86,7 @@ module _ (cache : Cache) (handle : ℕ) (small : handle < 2 ^ 16) (object : Open
     opened : object.doomed ≡ false → IsOpened state handle number it.object
     opened lives = record { names = named; here = it.here; live = is-doomed false lives }
 
-    -- an object that the state has as settled is not dirty in the cache
+    -- an object that is clean in the state is not dirty in the cache
     is-clean : FlushesClean state (to_flush handle) → b.dirty ≡ false
     is-clean (other, (its, (names, settled))) =
         let same : number ≡ other = some_inj (sym named ∙ names.names) in
@@ -96,7 +96,7 @@ module _ (cache : Cache) (handle : ℕ) (small : handle < 2 ^ 16) (object : Open
   marks : object.dirty ≡ b.dirty
   marks = ap (λ (o : OpenObject). o.dirty) given.same
 
-  -- Of the mark that is given only this is used: where it is that of a dirty object, the object is dirty.
+  -- Of the flag that is given only this is used: where it is set, the object is dirty.
 
   clean-mark : (dirty : Bool) → (dirty ≡ true → object.dirty ≡ true) → b.dirty ≡ false → b.dirty ≡ dirty
   clean-mark true only clean = sym marks ∙ only refl

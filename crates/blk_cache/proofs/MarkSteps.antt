@@ -1,4 +1,4 @@
--- An object of a handle becomes dirty, or clean, from the moments of its dirty word.
+-- An object of a handle becomes dirty, or clean, from the moments of its dirty flag.
 use Rattle.std.proofs.Common.{◌≡◌, ℕ, ◌<◌, ◌^◌, Bool, true, false, not, [], inl, Option, Some, None, Result, refl, sym, ap, subst, ◌∙◌, arith}
 use Rattle.std.specs.Prelude.{◌⊎◌, ◌==◌, IfSome, IsSome, OnOk, if◌then◌else◌}
 use Rattle.std.specs.Option.{ForSome, option_map}
@@ -39,14 +39,14 @@ use Rattle.blk_cache.proofs.Marks.{at-node, marked-keeps, marked-same, marking-f
 abbrev Either : State → ℕ → Object → (dirty : Bool) → Image → Type 0
 Either state number object dirty image = Finds (rest state) image ⊎ Finds (rest (marked state number object (not dirty))) image
 
--- ---- one that isn't marked so
+-- ---- an object whose flag changes
 
 pub not-idle : (bindings : Bindings) (handle : ℕ) (b : Binding) → binding_of bindings handle ≡ Some b → (dirty : Bool) → (b.dirty ≡ dirty → ⊥) → (old now : Told) → IfSome (binding_of bindings handle) (λ binding. binding.dirty ≡ dirty → Stays old now)
 not-idle bindings handle b bound dirty differs old now = subst (λ (o : Option Binding). IfSome o (λ binding. binding.dirty ≡ dirty → Stays old now)) (sym bound) (λ same. absurd (differs same))
 
 -- ---- names
 
--- names with other marks are valid where they were
+-- names with other flags are valid where they were
 pub change-stands : (files : BlockFiles) (bindings : Bindings) (doomed dirty : Bool) (entry : ℕ) → AreBoundAmong files bindings → AreBoundAmong files (with_change (with_status doomed dirty) entry bindings)
 change-stands files bindings doomed dirty entry stand name binding is = by (binding_of bindings name) refl (sym (binding_of-change (with_status doomed dirty) entry bindings name) ∙ is) where
   with-marks : (d : Binding) (t : Bool) → (is_node_among files d.node ≡ true) × (is_record_among files d.entry ≡ true) → (is_node_among files (if t then with_status doomed dirty d else d).node ≡ true) × (is_record_among files (if t then with_status doomed dirty d else d).entry ≡ true)
@@ -57,7 +57,7 @@ change-stands files bindings doomed dirty entry stand name binding is = by (bind
   by None e h = absurd (let c : ◌≡◌ {A = Option Binding} None (Some binding) = h in cc)
   by (Some d) e h = subst (λ (z : Binding). (is_node_among files z.node ≡ true) × (is_record_among files z.entry ≡ true)) (some_inj h) (with-marks d (entry == d.entry) (stand name d e))
 
--- the names of an object with a bound name get marks
+-- the names of an object with a bound name get flags
 pub change-is : (bindings new : Bindings) (handle : ℕ) (b : Binding) → binding_of bindings handle ≡ Some b → (doomed dirty : Bool) → IfSome (binding_of bindings handle) (λ object. new ≡ with_change (with_status doomed dirty) object.entry bindings) → new ≡ with_change (with_status doomed dirty) b.entry bindings
 change-is bindings new handle b bound doomed dirty says = subst (λ (o : Option Binding). IfSome o (λ object. new ≡ with_change (with_status doomed dirty) object.entry bindings)) bound says
 
@@ -70,7 +70,7 @@ change-bound bindings change entry name some = subst (λ (o : Option Binding). I
 
 -- ---- the object
 
--- the word of a node is set as it is told
+-- the dirty flag of a node is set to the given word
 pub sets-so : {A : Type 0} (files : BlockFiles) (old now : Told) (result : Result A Fault) (object other : OpenObject) → object ≡ other → (word told : ℕ) → word ≡ told → SetsDirty files old now object.node word result → SetsDirty files old now other.node told result
 sets-so files old now result object other same word told is sets =
     subst (λ (w : ℕ). SetsDirty files old now other.node w result) is (subst (λ (o : OpenObject). SetsDirty files old now o.node word result) same sets)
@@ -100,7 +100,7 @@ module _ (cache : Cache) (handle : ℕ) (b : Binding) (bound : binding_of cache.
     same-stops from here state number object k names =
         passes_none (Either state number object dirty) refl (λ i there. inl (subst (λ (z : Image). Finds (rest state) z) (some_inj (sym here ∙ there)) (k.kept.entries.sound, kept-held state k.layout [] from k.kept.entries)))
 
-  -- its node checks
+  -- its node has a matching checksum or none
   module _ (old : Told) (bytes : TellsBytes old) (stands : is_node_among cache.files b.node ≡ true) where
     node-good : (from : Image) (state : State) (number : ℕ) (object : Object) (k : HoldsState cache state from) → Names state handle number object → (list_of from).checks b.node ≡ true
     node-good from state number object k names =

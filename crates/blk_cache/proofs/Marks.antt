@@ -67,7 +67,7 @@ set-same [] i x e = refl
 set-same (y ∷ xs) zero x e = ap (λ (z : Option _). z ∷ xs) (sym e)
 set-same (y ∷ xs) (suc i) x e = ap (λ (zs : List (Option _)). y ∷ zs) (set-same xs i x e)
 
--- one that is marked so is as it was
+-- an object whose flag is set to what it has is as it was
 pub marked-same : (state : State) (number : ℕ) (object : Object) (settled : Bool) → object_at state number ≡ Some object → object.settled ≡ settled → marked state number object settled ≡ state
 marked-same state number object settled here is =
     let same : record object { settled = settled } ≡ object = ap (λ (b : Bool). record object { settled = b }) (sym is) in
@@ -81,7 +81,7 @@ turned-twice : (t : Bool) → t ≡ not (not t)
 turned-twice true = refl
 turned-twice false = refl
 
--- ---- the mark
+-- ---- the dirty flag
 
 module _ (cache : Cache) (state : State) (from : Image) (k : HoldsState cache state from) (handle number : ℕ) (object : Object) (names : Names state handle number object) (b : Binding) (bound : binding_of cache.handles handle ≡ Some b) (dirty : Bool) where
   abbrev kept : KeepsUncounted state k.layout [] from
@@ -111,7 +111,7 @@ module _ (cache : Cache) (state : State) (from : Image) (k : HoldsState cache st
     by true e = absurd (kept.session.id (sym k.mark ∙ eqb-true cache.mark 0 e))
     by false e = refl
 
-  -- the word tells it
+  -- the word is 0 exactly where the object is clean
   tells : (word == 0) ≡ not dirty
   tells = by dirty where
     by : (d : Bool) → (dirty_word cache d == 0) ≡ not d

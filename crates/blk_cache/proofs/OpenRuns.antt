@@ -80,7 +80,7 @@ made-next image made = finished-id image (made-formed image made) ∙ ap next_id
 unfinished-next : (image : Image) → IsUnfinished image → opened_id image ≡ 1
 unfinished-next image un = ap (λ (b : Bool). if b then 1 else next_id (this_id_of (byte image Index))) ((unfinished_agrees image).1 un)
 
--- ---- a repaired folder
+-- ---- a recovered folder
 
 pub opened-as : (scan : Scan) (entry image : Image) (opened : Opened) → IsRepairable scan entry → IsRepaired entry image → AreBytes image → Agrees opened.files image → opened.items ≡ length scan.kept.items → opened.bytes ≡ scan.bytes → opened.mark ≡ word image Index 20
     → IsOpenedAs entry opened image
@@ -110,7 +110,7 @@ made-opened entry made image opened un is left =
       finished = left.finished;
     }
 
--- by the empty scan it may be repaired
+-- by the empty scan it may be recovered
 pub made-can : (scan : Scan) (image : Image) → IsJustMade image → IsEmptyScan scan → IsRepairable scan image
 made-can scan image made empty = made-repairable made.0 image scan made.1 empty
 
@@ -152,14 +152,14 @@ passes-silent passes none = passes.applies.files ∙ ap (option_map (after passe
 
 -- ---- where the session was marked as open
 
--- what repaired an image opened it
+-- what recovered an image opened it
 pub repaired-opens : {a b : Told} (from : Image) → EndsWithCrashWord a b (IsMidRepair from) (IsRepaired from) → EndsWithCrashWord a b (IsMidRepair from) (StandsOpened from)
 repaired-opens from ends = ends-weaker ends (λ i mid. mid) (λ i repaired. repaired.stands_for)
 
 pub repaired-either : {a b : Told} (from : Image) → EndsOrBreaksOff a b (IsMidRepair from) (IsRepaired from) → EndsOrBreaksOff a b (IsMidRepair from) (StandsOpened from)
 repaired-either from either = either-weaker either (λ i mid. mid) (λ i repaired. repaired.stands_for)
 
--- what stands for what a made folder holds stands for what was found in the uninitialized one before it
+-- what represents what a made folder holds represents what was recovered of the uninitialized one before it
 pub made-stands : (entry made image : Image) → IsUnfinished entry → IsJustMade made → StandsOpened made image → StandsOpened entry image
 made-stands entry made image un is stands limits = subst (λ (rows : List Row). StandsFor image (open_state rows limits)) (made-found made is ∙ sym (unfinished-found entry un)) (stands limits)
 
@@ -203,17 +203,17 @@ loading-as e a b same cause = if_damaged_weaker {A = Told} (Err e) (IsLoadDamage
 pub looking-as : (e : Fault) (a b : Told) → b ≡ a → IfDamaged {A = Told} (Err e) (IsLookDamage a) → IfDamaged {A = Told} (Err e) (IsOpeningDamage b)
 looking-as e a b same cause = if_damaged_weaker {A = Told} (Err e) (IsLookDamage a) (IsOpeningDamage b) (λ damage h. inl (subst (λ (t : Told). IsLookDamage t damage) (sym same) h)) cause
 
--- an observable folder tells its files
+-- an observable folder isn't opaque
 pub told-some : {P : Type 0} (a : Told) (image : Image) → a.files ≡ Some image → a.files ≡ None → P
 told-some a image there none = absurd (no (sym there ∙ none)) where
   no : ◌≡◌ {A = Option Image} (Some image) None → ⊥
   no e = cc
 
--- a well-formed folder may be repaired by its scan
+-- a well-formed folder may be recovered by its scan
 pub scanned-can : (files : BlockFiles) (scan : Scan) (image : Image) → IsWellFormed image → IsOpen files image → (Agrees files image → IsScanOf image scan) → IsRepairable scan image
 scanned-can files scan image well open_now told = record { well_formed = well; scanned = told open_now.agrees }
 
--- what told nothing after a call that stayed told nothing before
+-- a folder that is opaque after a call that left it as it was, was opaque before
 pub untold-as : (e : Fault) (a b : Told) → b ≡ a → IfDamaged {A = Told} (Err e) (λ _. b.files ≡ None) → IfDamaged {A = Told} (Err e) (λ _. a.files ≡ None)
 untold-as e a b same cause = if_damaged_weaker {A = Told} (Err e) (λ _. b.files ≡ None) (λ _. a.files ≡ None) (λ damage none. sym (ap (λ (t : Told). t.files) same) ∙ none) cause
 

@@ -1,4 +1,4 @@
--- A repaired folder keeps what it held, opened, and a made one may be repaired.
+-- A recovered folder keeps what it held, opened, and a made one may be recovered.
 use Rattle.std.proofs.Common.{◌≡◌, ◌≢◌, ◌⊎◌, inl, inr, ℕ, ◌+◌, ◌%◌, ◌^◌, Bool, true, false, ◌&&◌, List, [], ◌∷◌, length, map, Option, Some, IfSome, refl, sym, ap, subst, ◌∙◌, arith}
 use Rattle.std.specs.Prelude.{◌==◌, if◌then◌else◌}
 use Rattle.std.specs.List.{flat_map, sum_by}
@@ -49,7 +49,7 @@ use Rattle.blk_repair.specs.Repair.{IsRepaired, next_id}
 use Rattle.blk_cache.specs.OpeningLaws.{MadeFoldersAreRepairable, RepairedFoldersHaveTheToldTotals, RepairedFoldersKeepTheirState}
 use Rattle.blk_cache.proofs.Unnamed.{opened-unnamed}
 
--- ---- a repaired folder
+-- ---- a recovered folder
 
 next-some : (id : ℕ) → next_id id ≢ 0
 next-some id = go ((id + 1) % 2 ^ 32 == 0) refl where

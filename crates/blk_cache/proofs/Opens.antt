@@ -77,7 +77,7 @@ module _ (cache : Cache) (state : State) (from : Image) (k : HoldsState cache st
       (cases_Bool at.object.settled)
 
   module _ (node : ℕ) (same : ForSome (open_with cache.handles found.entry) (λ b. b.node ≡ node)) (other : open_with cache.handles found.entry ≡ None → node ≡ found.node) where
-    -- the node that is used is that of the item
+    -- the node that is accessed is that of the item
     pub used-node : node ≡ k.layout.place (main key)
     used-node = by (open_with cache.handles found.entry) refl where
       by : (o : Option Binding) → open_with cache.handles found.entry ≡ o → node ≡ k.layout.place (main key)

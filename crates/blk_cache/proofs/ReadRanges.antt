@@ -80,7 +80,7 @@ module _ (cache : Cache) (state : State) (image : Image) (k : HoldsState cache s
     pub so-many : n ≡ bytes_there its-named.size offset count
     so-many = number_is ∙ ap (λ (o : Object). bytes_there (length (stream_of o at)) offset count) same-object
 
-    -- they end where a u64 can tell
+    -- they end at a number that a u64 has
     few : length (stream_of it.object at) ≤ 2147483647
     few =
         let its = stream_facts cache.files image b.entry at it.loaded.streams k.files its-below (bound-streams state k.layout [] image k.kept.entries (number cache state image k handle b bound) b it) in

@@ -1,4 +1,4 @@
--- A Read of a cache that keeps a state, from the moments of its touch.
+-- A Read of a cache that keeps a state, from the moments of its access.
 use Rattle.std.proofs.Common.{◌≡◌, ⊎_elim, ℕ, ◌-◌, Bool, true, false, List, [], length, drop, Option, Some, None, Result, refl, sym, ap, subst, ◌∙◌}
 use Rattle.std.specs.Prelude.{OnOk, if◌then◌else◌, min, not, sum_by}
 use Rattle.std.specs.Option.{ForSome}
@@ -96,7 +96,7 @@ keeps-in-order cache state from image k uses keeps files id =
       mark = k.mark ∙ sym id;
     }
 
--- ---- the use
+-- ---- the access
 
 module _ (cache : Cache) (old mid : Told) (stays : mid ≡ old) (moment handle stream offset count : ℕ) (found : NamedStream) (has : ForSome old.files (λ image. (state : State) (k : HoldsState cache state image) → IsNamedStream state k.layout handle stream found)) where
   module _ (image : Image) (here : old.files ≡ Some image) (state : State) (k : HoldsState cache state image) where

@@ -1,4 +1,4 @@
--- A SparseWrite of no bytes: it uses the main item of its object, and does nothing else.
+-- A SparseWrite of no bytes: it accesses the main item of its object, and does nothing else.
 use Rattle.std.proofs.Common.{◌≡◌, ℕ, ◌-◌, Bool, true, List, [], ◌∷◌, ◌++◌, set, Option, Some, None, refl, sym, ap, ap₂, subst, ◌∙◌, arith}
 use Rattle.std.specs.Prelude.{if◌then◌else◌, sum_by}
 use Rattle.std.specs.Option.{ForSome}
@@ -109,7 +109,7 @@ module _ (state : State) (moment handle offset : ℕ) (layout : Layout) (found :
   unfolding uses_of covered_parts
   use-is = ap (λ (o : Object). main o.key ∷ []) (named-object state handle t.its.number object t.its.names)
 
-  -- ---- the use
+  -- ---- the access
 
   module _ (from : Image) (k : KeepsUncounted state layout [] from) where
     pub listed : is_listed state (main object.key) ≡ true

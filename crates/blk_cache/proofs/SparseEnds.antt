@@ -46,7 +46,7 @@ loose-charge : (o : Object) → charge (record o { settled = false }) ≡ charge
 unfolding charge
 loose-charge o = refl
 
--- an object becomes sparse with the signature
+-- an object becomes sparse with the generation
 made : (moment : ℕ) (object : Object) (target : Target) → IsTargetOf object target → IsSignedBy moment target → made_sparse moment object.shape ≡ sparse (signature_to target)
 made moment object target is signed = by target.plain refl where
   by : (t : Bool) → target.plain ≡ t → made_sparse moment object.shape ≡ sparse (signature_to target)

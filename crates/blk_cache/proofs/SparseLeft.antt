@@ -34,7 +34,7 @@ among key covers (n ∷ ns) all = (
   among key covers ns (λ m there. all m (or_right (same_item (part key m) (part key n)) (list_any (same_item (part key m)) (map (part key) ns)) there)),
 )
 
--- ---- the object once groups are out
+-- ---- the object once eviction units are out
 
 module _ (state : State) (valid : IsValidState state) (number : ℕ) (object : Object) (here : object_at state number ≡ Some object) (named : is_named state number ≡ true) (ns : List ℕ)
     (groups : List Group) (loose : AllByRecursion (IsLoose (is_pinned state (map (part object.key) ns))) groups) where

@@ -34,7 +34,7 @@ use Rattle.blk_cache.proofs.SparseCovered.{measured-covered}
 use Rattle.blk_cache.proofs.SparseRise.{raises-as-measured}
 use Rattle.blk_cache.proofs.SparseRoom.{early-is, many-streams}
 
--- ---- the signature of the moment
+-- ---- the generation of the moment
 
 moment-small : (moment : ℕ) → moment % signatures < signatures
 moment-small moment = mod_below moment signatures (omega arith)
@@ -76,7 +76,7 @@ module _ (state : State) (layout : Layout) (moment handle offset : ℕ) (bytes :
   plain-asked found is true e = plain-named found is e
   plain-asked found is false e = many-streams state moment handle offset bytes is.its.number is.its.object is.its.names is.passes is.is_plain (sym is.one_stream ∙ e)
 
-  -- what is asked tells what gets sparse data
+  -- what is asked gives the object that gets sparse data
   pub asked-found : (given : AskedSparse) → IsAskedSparse state layout handle offset (length bytes) given → IsAskedTarget state layout moment handle offset bytes (asked_target moment given)
   asked-found (asked.Refused why) is = early-is state moment handle offset bytes why is
   asked-found (asked.Plain found) is = plain-asked found is found.one_stream refl
@@ -115,7 +115,7 @@ module _ (cache : Cache) (state : State) (image : Image) (k : HoldsState cache s
       let p = t.may.of_parent e in
       record { kept = k.kept.entries; here = t.its.names.here; live = t.its.live; node_is = t.its.node_is; was = t.its.was; lies = t.its.lies; record_is = t.its.record_is; index = p.0; role = p.1.0; same = p.1.1 }
 
-  -- which has its signature
+  -- which has its generation
   pub parent-measured : found.plain ≡ false → (measured : Measured) → IsMeasured k.layout t.its.object (signature_to found) offset count measured → IsMeasured k.layout (with_signature t.its.object (signature_to found)) (signature_to found) offset count measured
   parent-measured e measured m =
       let same : t.its.object ≡ with_signature t.its.object (signature_to found) = ap (λ (s : Shape). record t.its.object { shape = s }) (t.may.of_sparse e) in

@@ -74,7 +74,7 @@ module _ (object : Object) (target : Target) (offset : ℕ) (bytes : List ℕ) (
       let missing = m.missing in
       record { charged = omega (arith, charged, begun, there, up); counted = omega (arith, counted, missing) }
 
--- ---- once groups are out
+-- ---- once eviction units are out
 
 -- the parts of some numbers are in two objects as they are
 abbrev pub SameParts : (one two : Object) → List ℕ → Type 0

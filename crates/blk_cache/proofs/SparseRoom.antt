@@ -27,7 +27,7 @@ some-fourth false false true d e f p q r s t u why is = is
 some-fourth false false false true e f p q r s t u why is = is
 some-fourth false false false false e f p q r s t u why is = cc
 
--- where none of them is, the fifth tells
+-- where none of them is, the fifth decides
 fifth : (a b c d e f : Bool) (p q r s t u : Refusal) → first_refusal ((a, p) ∷ (b, q) ∷ (c, r) ∷ (d, s) ∷ []) ≡ None → first_refusal ((a, p) ∷ (b, q) ∷ (c, r) ∷ (d, s) ∷ (e, t) ∷ (f, u) ∷ []) ≡ (if e then Some t else if f then Some u else None)
 fifth true b c d e f p q r s t u is = cc
 fifth false true c d e f p q r s t u is = cc

@@ -93,7 +93,7 @@ module _ (state : State) (moment handle offset count : ℕ) where
       use-refused w ∙ five (names_none state handle) (nat_lt 1048576 count) (past_end offset count) (is_doomed state handle) (is_plain state handle) refusal.BadHandle refusal.TooLarge refusal.RangeEnd refusal.Doomed refusal.NotSparse None p.passes
       ∙ ap (λ (t : Bool). if t then Some refusal.NotSparse else None) full
 
--- what is told of a run is no refusal
+-- the answer about a run is no refusal
 pub run-told : (w : Wanted) (offset : ℕ) (run : ℕ × ℕ) → IsRefused (told_of_run w offset run) → ⊥
 run-told wanted.Bytes offset run r = r
 run-told wanted.Run offset run r = r
@@ -103,7 +103,7 @@ pub sparse-refuses : (cache : Cache) (old now : Told) → now ≡ old → (momen
 sparse-refuses cache old now stays moment handle offset count w why refuses =
     refusals-done (HoldsState cache) old now moment (to_use_sparse w handle offset count) why stays refuses
 
--- ---- the use
+-- ---- the accesses
 
 module _ (cache : Cache) (old mid now : Told) (stays : mid ≡ old) (moment handle offset count : ℕ) (w : Wanted) (parent : Parent) (has : ForSome old.files (λ image. (state : State) (k : HoldsState cache state image) → IsParentNamed state k.layout handle offset count parent)) where
   module _ (image : Image) (here : old.files ≡ Some image) (state : State) (k : HoldsState cache state image) where

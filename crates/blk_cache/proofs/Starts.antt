@@ -1,4 +1,4 @@
--- A cache that was just started keeps the state that was found.
+-- A cache that was just started keeps the state of the recovered contents.
 use Rattle.std.proofs.Common.{◌≡◌, ℕ, List, [], length, sum_by, Option, Some, None, refl, sym, ap, subst, ◌∙◌}
 use Rattle.spec_image.specs.Image.{Image}
 use Rattle.blk_model.specs.Bounds.{bounds_of}

@@ -46,7 +46,7 @@ any-device (Err step_fault.Device) P h = h
 any-device (Err step_fault.Sink) P h = tt
 any-device (Err (step_fault.Damaged damage)) P h = tt
 
--- a folder is opaque, or tells its files
+-- a folder is opaque or observable
 pub by-files : (P : Type 0) (files : Option Image) → (files ≡ None → P) → ((image : Image) → files ≡ Some image → P) → P
 by-files P None none some = none refl
 by-files P (Some image) none some = some image refl

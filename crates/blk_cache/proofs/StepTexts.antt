@@ -80,7 +80,7 @@ module _ (old done : Cache) (told mid now : Told) (moment : ℕ) (request : Requ
       let p = stops image there state k in
       (after p.steps image, same ∙ p.applies.files ∙ ap (option_map (after p.steps)) there)
 
-  -- and one that doesn't told none before
+  -- and one that is opaque in the end was opaque before
   pub none-before : ForSome told.files (KeepsAny old) → now.files ≡ None → told.files ≡ None
   none-before any none = by told.files refl where
     no : {i : Image} → ◌≡◌ {A = Option Image} None (Some i) → ⊥

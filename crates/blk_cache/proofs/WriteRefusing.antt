@@ -62,7 +62,7 @@ module _ (cache : Cache) (state : State) (image : Image) (k : HoldsState cache s
   write-fifth early is = only-fifth (names_none state handle) (no_stream stream) (nat_lt (stream_limit state) (offset + length bytes)) (is_kept_from_streams state handle stream) (no_room moment (to_write handle stream offset cut bytes) state)
       refusal.BadHandle refusal.BadStream refusal.TooLarge refusal.SparseStream refusal.Full (early-same ∙ early) is
 
-  -- so what is asked of the stream tells it
+  -- so what is asked of the stream gives it
   pub asked-to-write : early_write_refusal cache handle stream offset (length bytes) ≡ None → (given : Asked) → IsAsked state k.layout handle stream given → IsAskedToWrite state k.layout moment handle stream offset cut bytes given
   asked-to-write early (asked.Refused why) is = write-fourth why early is
   asked-to-write early (asked.Stream found) is = record { named = is; unless_full = write-fifth early is.passes }

@@ -1,4 +1,4 @@
--- A stream of a dirty object is written and used, from the moments of both.
+-- A stream of a dirty object is written and accessed, from the moments of both.
 use Rattle.std.proofs.Common.{◌≡◌, ℕ, ◌-◌, ◌<◌, ◌^◌, Bool, true, false, not, List, [], Some, None, Result, refl, sym, ap, subst, ◌∙◌}
 use Rattle.std.specs.Prelude.{length}
 use Rattle.std.specs.Option.{ForSome}
@@ -104,7 +104,7 @@ module _ (cache : Cache) (handle : ℕ) (b : Binding) (bound : binding_of cache.
         subst (IsListed b.node) (some_inj (sym m.1 ∙ there))
         (subst (λ (n : ℕ). IsListed n m.0) (sym u.node_is) (listed-node (later from here one.state one.kept one.can) (laid from here one.state one.kept one.can) m.0 u.kept (after_write one.can.object stream offset cut bytes).key (main-listed (later from here one.state one.kept one.can) u.kept.valid one.can.number (after_write one.can.object stream offset cut bytes) true u.here alive))))))
 
-    -- ---- the use
+    -- ---- the access
 
     module _ (now : Told) (stays : b.doomed ≡ true → now ≡ mid) (using : b.doomed ≡ false → ForSome mid.files (λ from. ForEachToUse b.node from (λ state layout its. Passes mid now (Finds (rest state))))) where
       pub both-stop : ForSome old.files (λ from. (state : State) → HoldsState cache state from → CanGetBytes state handle stream offset cut bytes size → Passes old now (Finds (rest state)))

@@ -1,4 +1,4 @@
--- The use of an item of a dirty object, and the count of its rise.
+-- The access to an item of a dirty object, and the count of its rise.
 use Rattle.std.proofs.Common.{◌≡◌, ℕ, ◌+◌, Bool, true, false, List, [], ◌∷◌, ◌++◌, Option, Some, None, Result, Ok, Err, refl, sym, ap, subst, ◌∙◌}
 use Rattle.std.specs.Prelude.{if◌then◌else◌, nat_lt}
 use Rattle.std.specs.Option.{ForSome, option_map}
@@ -49,14 +49,14 @@ module _ (state : State) (number : ℕ) (object : Object) (valid : IsValidState 
   rest-whatever other uses is keeps =
       unsettled-rest state number object other object uses state.uses valid here live is (record { key_is = refl; live = live; unsettled = loose }) keeps refl ∙ ap rest (as-it-is state.uses)
 
-  -- also once it is used
+  -- also once it is accessed
   pub keeps-used : KeepsOtherKeys state object.key (used (main object.key) state.uses)
   keeps-used = (own-uses state object.key (main object.key) state.uses refl refl).1
 
   pub rest-used : rest (with_used state (main object.key)) ≡ rest state
   rest-used = sym (ap rest (as-it-is (used (main object.key) state.uses))) ∙ rest-whatever object (used (main object.key) state.uses) (record { key_is = refl; live = live; unsettled = loose }) keeps-used
 
--- ---- the use
+-- ---- the access
 
 either-way : (b : Bool) (one other it : List Row) (image : Image) → one ≡ it → other ≡ it → Finds (if b then one else other) image → Finds it image
 either-way true one other it image first second finds = subst (λ (rows : List Row). Finds rows image) first finds
@@ -72,7 +72,7 @@ module _ (files : BlockFiles) (node : ℕ) (old mid : Told) (from : Image) (here
   same-rest : rest (with_used state (main object.key)) ≡ rest state
   same-rest = rest-used state number object is.kept.valid is.here is.live is.unsettled
 
-  -- at each word of the touch
+  -- at each word of the access
   touch-finds : (i : Image) → IsTouched from node (touch_writes node (list_of from)) i → Finds (rest state) i
   touch-finds i touched =
       let at : IsTouched from (layout.place (main object.key)) (touch_writes (layout.place (main object.key)) (list_of from)) i = subst (λ (n : ℕ). IsTouched from n (touch_writes n (list_of from)) i) is.node_is touched in
@@ -96,7 +96,7 @@ module _ (files : BlockFiles) (node : ℕ) (old mid : Told) (from : Image) (here
 
 module _ (files : BlockFiles) (node moment less more : ℕ) (old mid now : Told) (bytes : TellsBytes old) (opened : ForSome old.files (IsOpen files))
     (stops : ForSome old.files (λ from. (prefix suffix : List ℕ) → HasListAtRest (prefix ++ node ∷ suffix) from → Passes old mid (IsMidTouch files node (touch_writes node (list_of from)) (prefix ++ node ∷ suffix) (node ∷ prefix ++ suffix) from))) where
-  -- the touch in part
+  -- the access in part
   pub used-in-part : ForSome old.files (λ from. ForEachToUse node from (λ state layout its. Passes old mid (Finds (rest state))))
   used-in-part from here state layout number object is = touch-stops files node old mid from here state layout number object is stops
 
@@ -128,7 +128,7 @@ module _ (files : BlockFiles) (node moment less more : ℕ) (old mid now : Told)
 
 -- ---- failed checks
 
--- where files are told, none is said by a failed check that comes only where none are
+-- corruption that is reported of an opaque folder alone is never reported of an observable one
 pub never-told : {A : Type 0} (r : Result A Fault) (mid old : Option Image) (i : Image) → mid ≡ Some i → IfDamaged r (λ _. mid ≡ None) → IfDamaged r (λ _. old ≡ None)
 never-told (Ok a) mid old i there d = tt
 never-told (Err fault.Device) mid old i there d = tt

@@ -1,4 +1,4 @@
--- A stream of a dirty object of a cache that keeps a state is written, used and counted.
+-- A stream of a dirty object of a cache that keeps a state is written, accessed and counted.
 use Rattle.std.proofs.Common.{◌≡◌, ◌⊎◌, ⊎_elim, inl, inr, ℕ, zero, suc, ◌+◌, ◌-◌, ◌<◌, ◌≤◌, ◌^◌, Bool, true, false, List, [], length, get_or, Option, Some, None, refl, sym, ap, ap₂, subst, ◌∙◌, arith}
 use Rattle.std.specs.Prelude.{◌&&◌, ◌||◌, IfSome, if◌then◌else◌, is_none, nat_lt, sum_by}
 use Rattle.std.proofs.lemmas.Bool.{ltb-false}
@@ -258,7 +258,7 @@ module _ (cache : Cache) (state : State) (from : Image) (k : HoldsState cache st
                 subst (λ (n : ℕ). IsRisen state (with_used written-state (main other.key)) k.layout there n more) first (subst (λ (n : ℕ). IsRisen state (with_used written-state (main other.key)) k.layout there before n) second risen) in
                 rises state (with_used written-state (main other.key)) k.layout there [] less more u.touched end counted-before now u.kept u.counted
 
-            -- the session is that of its dirty word
+            -- the session is that of its dirty flag
             live-session : (alive : object.live ≡ true) → Keeps (with_used written-state (main other.key)) there [] end → this_id_of (byte end Index) ≡ this_id_of (byte from Index)
             live-session alive keeps =
                 let at-now : there.at (there.place (main other.key)) ≡ Some w.now = ap there.at (sym (live-node alive)) ∙ lies.at_node in

@@ -24,7 +24,7 @@ use Rattle.blk_cache.specs.declared.asking.NamedStream.{NamedStream}
 
 -- Refusals.
 
--- the refusal of a stream that the table of handles and the stream's number tell already, before the record is read
+-- the refusal of a stream that the table of handles and the stream's number decide already, before the record is read
 abbrev pub early_stream_refusal : Bindings → (handle stream : ℕ) → Option Refusal
 early_stream_refusal bindings handle stream = first_refusal ((is_none (binding_of bindings handle), refusal.BadHandle) ∷ (no_stream stream, refusal.BadStream) ∷ [])
 

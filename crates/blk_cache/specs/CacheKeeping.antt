@@ -74,7 +74,7 @@ pub record HoldsState (cache : Cache) (state : State) (image : Image) : Type 0 w
   -- the dirty flag that the cache sets is the number of its session
   pub mark : cache.mark ≡ this_id_of (byte image Index)
 
--- the invariant of a cache: it holds the state on the image of its folder, and the index is finished
+-- the invariant of a cache: it holds the state on the image of its folder, and the index is initialized
 pub record KeepsState (cache : Cache) (state : State) (image : Image) : Type 0 where
   pub holds : HoldsState cache state image
   pub finished : HasMagic image

@@ -66,7 +66,7 @@ FlushesClean state _ = ⊥
 
 -- Open.
 
--- the refusal of an Open that the key and the table of handles tell: a key that none can have, a number that is no handle, or a handle that is in use
+-- the refusal of an Open that the key and the table of handles decide: a key that none can have, a number that is no handle, or a handle that is in use
 abbrev pub open_refusal : Bindings → ℕ → List ℕ → Option Refusal
 open_refusal bindings handle key = first_refusal ((no_key key, refusal.BadKey) ∷ (no_name handle, refusal.BadHandle) ∷ (is_some (binding_of bindings handle), refusal.HandleBusy) ∷ [])
 

@@ -80,7 +80,7 @@ NamedObjectsLieOn state after old new =
     (number : ℕ) (object left : Object) → object_at state number ≡ Some object → is_named state number ≡ true → object_at after number ≡ Some left
     → (node_of_object new number left ≡ node_of_object old number object) × (new.at (node_of_object old number object) ≡ old.at (node_of_object old number object))
 
--- the object was doomed: the folder keeps the state in which it is, `gone` tells the items and costs that left, objects with handles lie where they lay, and
+-- the object was doomed: the folder keeps the state in which it is, `gone` has the items and costs that left, objects with handles lie where they lay, and
 -- the session is unchanged
 pub record IsDoomed (state : State) (layout : Layout) (number : ℕ) (object : Object) (gone : Gone) (from image : Image) : Type 0 where
   pub left : Layout

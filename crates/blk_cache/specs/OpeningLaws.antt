@@ -29,12 +29,12 @@ MadeFoldersAreRepairable = (moment : ℕ) (image : Image) (scan : Scan) → IsMa
 abbrev pub RepairedFoldersKeepTheirState : Type 0
 RepairedFoldersKeepTheirState = (entry image : Image) (limits : Bounds) → IsRepaired entry image → AreBytes image → KeepsSome (open_state (found entry) limits) image
 
--- a scan tells the number of items and the sum of costs of the recovered contents of the image `entry`, opened
+-- a scan gives the number of items and the sum of costs of the recovered contents of the image `entry`, opened
 pub record AreTotalsTold (scan : Scan) (entry : Image) (limits : Bounds) : Type 0 where
   pub items_told : length scan.kept.items ≡ items (open_state (found entry) limits)
   pub bytes_told : scan.bytes ≡ total (open_state (found entry) limits)
 
--- where the recovery of `entry` is done, the scan of `entry` told the number of items and the sum of costs of its recovered contents
+-- where the recovery of `entry` is done, the scan of `entry` gave the number of items and the sum of costs of its recovered contents
 abbrev pub RepairedFoldersHaveTheToldTotals : Type 0
 RepairedFoldersHaveTheToldTotals = (scan : Scan) (entry image : Image) (limits : Bounds) → IsScanOf entry scan → IsRepaired entry image → AreBytes image → AreTotalsTold scan entry limits
 

@@ -1,4 +1,4 @@
--- What is pinned by handles alone, and how a cache tells from its counters whether there is space.
+-- What is pinned by handles alone, and how a cache decides from its counters whether there is space.
 use Rattle.std.specs.Prelude.{◌≡◌, ℕ, ◌+◌, Bool, false, not, ◌&&◌, ◌||◌, ◌==◌, nat_lt, List, [], length, sum_by, if◌then◌else◌}
 use Rattle.spec_image.specs.Image.{Image}
 use Rattle.blk_model.specs.Bounds.{bounds_of}
@@ -25,7 +25,7 @@ NamedObjectsArePinned = (state : State) → IsValidState state → ArePinned sta
 abbrev pub is_over : Bounds → ℕ → ℕ → ℕ → ℕ → Bool
 is_over limits open_bytes open_objects bytes more = nat_lt limits.max_bytes (open_bytes + bytes) || nat_lt limits.max_items (open_objects + more)
 
--- where a cache keeps a state, its counters and the parts in range tell whether there is space for so many more bytes and items
+-- where a cache keeps a state, its counters and the parts in range decide whether there is space for so many more bytes and items
 abbrev pub RoomIsTold : Type 0
 RoomIsTold = (cache : Cache) (state : State) (image : Image) (covered : List Item) (parts : Covered) (bytes more : ℕ) → (k : HoldsState cache state image) → AreCovered state k.layout covered parts
     → is_full (room state covered bytes more) ≡ not (bytes == 0 && more == 0) && is_over (bounds_of cache.limits) (cache.open_bytes + parts.bytes) (open_count cache.handles + part_count parts) bytes more

@@ -76,7 +76,7 @@ impl Cache {
         }))
     }
 
-    /// Why there is no stream, by what the names and its number tell.
+    /// Why there is no stream, as far as the names and its number decide.
     pub(crate) fn refuses_stream(&self, handle: u16, stream: u8) -> Option<Refusal>
         ensures { result ≡ early_stream_refusal self.now.handles handle stream }
     {

@@ -20,7 +20,7 @@ pub struct Cache {
     pub(crate) open_bytes: u64,
     pub(crate) handles: Handles,
     pub(crate) files: BlockFiles,
-    // The dirty word of what is dirty: the number of the session.
+    // The dirty flag of what is dirty: the number of the session.
     pub(crate) mark: u32,
     // How many notes this cache has made, or the last value of a u64.
     pub(crate) notes: u64,

@@ -26,11 +26,11 @@ use blk_object::end_object;
 
 impl Cache {
     /// Frees a handle name. Where it was the last name of its object, the object counts as an open one no longer: of
-    /// a doomed object all that it has is freed, and it is no item any more; of another that is dirty the dirty word
+    /// a doomed object all that it has is freed, and it is no item any more; of another that is dirty the dirty flag
     /// becomes 0. Else nothing is written.
     ///
     /// It is refused with `BadHandle` where the name is free, or 4096 or more. For a last name one folder call reads the
-    /// record; three more make the dirty word 0; for a doomed object one more reads its places, and each of at most six
+    /// record; three more make the dirty flag 0; for a doomed object one more reads its places, and each of at most six
     /// places takes seven at most. After a fault nothing is promised of the cache but that it can be dropped.
     pub(crate) fn close<F: Folder>(&mut self, folder: &mut F, handle: u16) -> Result<Answer, Fault>
         requires is_open { ForSome (F.told folder.old).files (IsOpen self.old.files) }
@@ -83,7 +83,7 @@ impl Cache {
 
     // Ends an object whose last name was freed, and counts it with its cost as closed.
     //
-    // Of one that isn't doomed nothing but its node's seal is written after the dirty word: once that is 0 the object
+    // Of one that isn't doomed nothing but its node's checksum is written after the dirty flag: once that is 0 the object
     // is clean as it lies there.
     fn end_last<F: Folder>(
         &mut self,

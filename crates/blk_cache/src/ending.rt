@@ -39,7 +39,7 @@ impl Cache {
         ensures steps { OnOk result (Applies (F.told f.old) (F.told f.new) (word_step index crash_place 0)) }
         ensures prefix { AppliesPrefix (F.told f.old) (F.told f.new) (word_step index crash_place 0) }
 
-        // Before and after the step the same is found.
+        // Before and after the step recovery gives the same.
         ensures stops { ForSome (F.told f.old).files (λ from. (state : State) → KeepsState self state from → PassesAny (F.told f.old) (F.told f.new) (HoldsStill from)) }
 
         ensures later { F.faults f.old ≤ F.faults f.new }

@@ -1,4 +1,4 @@
-// Eviction units are evicted until a goal is met.
+// Eviction units are removed until a goal is met.
 ghost use Rattle.std.specs.Prelude.{◌≡◌, ◌+◌, [], ◌∷◌, IfOk, IsTrue, None, OnOk, true};
 ghost use Rattle.std.specs.Option.{ForSome};
 ghost use Rattle.spec_image.specs.Told.{Passes, MayWrite};
@@ -22,10 +22,10 @@ use blk_evict::{Unpinned, evict_group};
 use blk_io::{Fault, Folder, Sink};
 
 impl Cache {
-    /// Evicts groups, each that of the last item that isn't pinned, until enough is evicted or each item is pinned, and
-    /// prints each item of them. It tells how many items were evicted. The covered parts are pinned.
+    /// Removes eviction units, each that of the last item that isn't pinned, until enough is evicted or each item is pinned, and
+    /// prints each item of them. The answer is how many items were evicted. The covered parts are pinned.
     ///
-    /// After a fault nothing is promised of the cache but that it can be dropped. Where the sink fails nothing more is
+    /// After a fault nothing is promised of the cache but that it can be dropped. Where the output fails nothing more is
     /// printed, and the eviction goes on.
     pub(crate) fn evict_until<F: Folder, K: Sink>(
         &mut self,
@@ -37,16 +37,16 @@ impl Cache {
     ) -> Result<u64, Fault>
         requires is_open { ForSome (F.told folder.old).files (IsOpen self.old.files) }
 
-        // Each state that was kept is kept without the groups that are evicted, and these are counted and printed.
+        // Each state that was kept is kept without the eviction units that are evicted, and these are counted and printed.
         ensures evicted { OnOk result (ForCovered self.old parts.now (F.told folder.old) (λ state covered. ForSome (F.told folder.new).files (HoldsState self.new (without (evicted_until (is_met goal.now) state covered) state)))) }
         ensures counts { IfOk result (λ count. ForCovered self.old parts.now (F.told folder.old) (λ state covered. count ≡ count_of_groups (evicted_until (is_met goal.now) state covered))) }
         ensures prints { OnOk result (ForCovered self.old parts.now (F.told folder.old) (λ state covered. PrintsUnlessFailed failed.old failed.new (K.written out.old) (K.written out.new) (evicted_text (evicted_until (is_met goal.now) state covered)))) }
 
-        // At each word a prefix of the evicted groups is out; on any answer a prefix of their text was printed.
+        // At each word a prefix of the evicted eviction units is out; on any answer a prefix of their text was printed.
         ensures stops { ForCovered self.old parts.now (F.told folder.old) (λ state covered. Passes (F.told folder.old) (F.told folder.new) (IsEvicting (evicted_until (is_met goal.now) state covered) state)) }
         ensures front { ForCovered self.old parts.now (F.told folder.old) (λ state covered. Appends (K.written out.old) (K.written out.new) (evicted_text (evicted_until (is_met goal.now) state covered))) }
 
-        // Where the sink failed before nothing is printed.
+        // Where the output failed before nothing is printed.
         ensures quiet { failed.old ≡ true → (failed.new ≡ true) × (K.written out.new ≡ K.written out.old) }
         ensures fails { FailsWhereItRose failed.old failed.new (K.faults out.old) (K.faults out.new) }
         ensures others { OnlyItemsChange self.old self.new }
@@ -65,7 +65,7 @@ impl Cache {
         Ok(before.saturating_sub(self.items))
     }
 
-    // Evicts eviction units until the goal is met or each item is pinned.
+    // Removes eviction units until the goal is met or each item is pinned.
     fn evict_groups<F: Folder, K: Sink>(
         &mut self,
         folder: &mut F,
@@ -104,7 +104,7 @@ impl Cache {
         Ok(())
     }
 
-    // Evicts the eviction unit of an item that isn't pinned, and prints its items: a main item with its parts, or a part alone.
+    // Removes the eviction unit of an item that isn't pinned, and prints its items: a main item with its parts, or a part alone.
     fn evict<F: Folder, K: Sink>(
         &mut self,
         folder: &mut F,
@@ -116,7 +116,7 @@ impl Cache {
         requires record_stands { IsTrue (is_record_among self.old.files found.now.entry) }
         requires is_open { ForSome (F.told folder.old).files (IsOpen self.old.files) }
 
-        // Where it may be evicted in a state that was kept, that is kept without its group.
+        // Where it may be evicted in a state that was kept, that is kept without its eviction unit.
         ensures evicted { OnOk result (ForSome (F.told folder.old).files (λ from. ForEachThatMayGo self.old found.now from (λ state layout group. ForSome (F.told folder.new).files (KeepsInPlaces self.new (without (group ∷ []) state) layout)))) }
         ensures prints { OnOk result (ForSome (F.told folder.old).files (λ from. ForEachThatMayGo self.old found.now from (λ state layout group. PrintsUnlessFailed failed.old failed.new (K.written out.old) (K.written out.new) (evicted_text (group ∷ []))))) }
         ensures stops { ForSome (F.told folder.old).files (λ from. ForEachThatMayGo self.old found.now from (λ state layout group. Passes (F.told folder.old) (F.told folder.new) (FindsEither state (without (group ∷ []) state)))) }

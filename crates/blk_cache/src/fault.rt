@@ -59,7 +59,7 @@ impl From<NoMemory> for OpenFault {
 pub enum StepFault {
     /// The folder failed.
     Device,
-    /// The sink failed. The command is done, and noted.
+    /// The output failed. The command is done, and noted.
     Sink,
     /// What the folder holds failed a check, which it doesn't where the folder is observable.
     Damaged(Damage),

@@ -17,7 +17,7 @@ use blk_io::{Fault, Folder};
 use blk_model::{Answer, Refusal};
 
 impl Cache {
-    /// Makes the object that a handle names clean: where it is dirty its dirty word becomes 0. That is last of all, since
+    /// Makes the object that a handle names clean: where it is dirty its dirty flag becomes 0. That is last of all, since
     /// each command has written all else of the object and its parts.
     ///
     /// It is refused with `BadHandle` where the name is free, or 4096 or more, and `Doomed` where its object is doomed.

@@ -2,7 +2,7 @@
 ghost use Rattle.blk_cache.specs.OpeningLaws.{FreeCachesEndSound, FreeCachesHoldStill, KeptFoldersAreOpen, MadeFoldersAreRepairable, RepairedFoldersHaveTheToldTotals, RepairedFoldersKeepTheirState};
 
 /// A folder that was just made may be recovered by the empty scan; a folder that was recovered keeps the recovered contents, opened, with the totals that the
-/// scan told.
+/// scan gave.
 pub fn repaired_folders_keep_their_state()
     ensures made { MadeFoldersAreRepairable }
     ensures keeps { RepairedFoldersKeepTheirState }

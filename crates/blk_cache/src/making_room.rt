@@ -62,7 +62,7 @@ impl Cache {
         ensures stops { ForKept (HoldsState self.old) (F.told folder.old) (λ state. Passes (F.told folder.old) (F.told folder.new) (IsEvicting (evicted_for (room state [] bytes items)) state)) }
         ensures front { ForKept (HoldsState self.old) (F.told folder.old) (λ state. Appends (K.written out.old) (K.written out.new) (evicted_text (evicted_for (room state [] bytes items)))) }
 
-        // Where the sink failed before nothing is printed.
+        // Where the output failed before nothing is printed.
         ensures quiet { failed.old ≡ true → (failed.new ≡ true) × (K.written out.new ≡ K.written out.old) }
         ensures fails { FailsWhereItRose failed.old failed.new (K.faults out.old) (K.faults out.new) }
         ensures others { OnlyItemsChange self.old self.new }
@@ -84,7 +84,7 @@ impl Cache {
     /// Makes space for so many more bytes and items, where there can be space, and prints what is evicted for it. The
     /// covered parts stay.
     ///
-    /// Nothing is evicted where they fit, or nothing is asked for; and whether there can be space is told by what is
+    /// Nothing is evicted where they fit, or nothing is asked for; and whether there can be space is decided by what is
     /// kept in memory. After a fault nothing is promised of the cache but that it can be dropped.
     pub(crate) fn make_room_beside<F: Folder, K: Sink>(
         &mut self,
@@ -111,7 +111,7 @@ impl Cache {
         ensures stops { ForCovered self.old parts.now (F.told folder.old) (λ state covered. Passes (F.told folder.old) (F.told folder.new) (IsEvicting (evicted_for (room state covered bytes items)) state)) }
         ensures front { ForCovered self.old parts.now (F.told folder.old) (λ state covered. Appends (K.written out.old) (K.written out.new) (evicted_text (evicted_for (room state covered bytes items)))) }
 
-        // Where the sink failed before nothing is printed.
+        // Where the output failed before nothing is printed.
         ensures quiet { failed.old ≡ true → (failed.new ≡ true) × (K.written out.new ≡ K.written out.old) }
         ensures fails { FailsWhereItRose failed.old failed.new (K.faults out.old) (K.faults out.new) }
         ensures others { OnlyItemsChange self.old self.new }
@@ -158,7 +158,7 @@ impl Cache {
         ensures stops { ForRoom self.old parts.now (F.told folder.old) bytes items (λ state groups. Passes (F.told folder.old) (F.told folder.new) (IsEvicting groups state)) }
         ensures front { ForRoom self.old parts.now (F.told folder.old) bytes items (λ state groups. Appends (K.written out.old) (K.written out.new) (evicted_text groups)) }
 
-        // Where the sink failed before nothing is printed.
+        // Where the output failed before nothing is printed.
         ensures quiet { failed.old ≡ true → (failed.new ≡ true) × (K.written out.new ≡ K.written out.old) }
         ensures fails { FailsWhereItRose failed.old failed.new (K.faults out.old) (K.faults out.new) }
         ensures others { OnlyItemsChange self.old self.new }

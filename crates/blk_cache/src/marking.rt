@@ -1,4 +1,4 @@
-// An open object is marked dirty, or clean.
+// An open object becomes dirty, or clean.
 ghost use Rattle.std.specs.Prelude.{◌≡◌, IfSome, IsSome, None, OnOk, not, true};
 ghost use Rattle.std.specs.Option.{ForSome};
 ghost use Rattle.spec_image.specs.Told.{Passes, Stays, MayWrite};
@@ -17,8 +17,8 @@ use blk_io::{Fault, Folder};
 use blk_object::set_dirty_word;
 
 impl Cache {
-    /// Makes the object that a handle names, live or doomed, dirty or clean, where it isn't so: the dirty word of its
-    /// node becomes the number of the session, or 0, and then its names are marked so.
+    /// Makes the object that a handle names, live or doomed, dirty or clean, where it isn't so: the dirty flag of its
+    /// node becomes the number of the session, or 0, and then its names have this flag too.
     ///
     /// This takes three folder calls, and none where it is so.
     pub(crate) fn set_dirty<F: Folder>(
@@ -61,7 +61,7 @@ impl Cache {
         Ok(())
     }
 
-    // The dirty word of an object that is dirty, or clean.
+    // The dirty flag of an object that is dirty, or clean.
     fn dirty_word(&self, dirty: bool) -> u32
         ensures { result ≡ dirty_word self.now dirty }
     {
@@ -69,7 +69,7 @@ impl Cache {
     }
 }
 
-// Whether two marks are the same.
+// Whether two flags are the same.
 fn same(a: bool, b: bool) -> bool
     ensures so { result ≡ true → a ≡ b }
     ensures always { a ≡ b → result ≡ true }

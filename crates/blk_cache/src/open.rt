@@ -40,7 +40,7 @@ impl Cache {
         ensures does { IfOk result (λ answer. Does (HoldsState self.old) (HoldsState self.new) (F.told folder.old) (F.told folder.new) moment (to_open handle key.now) answer) }
         ensures stops { MayStopAtEach (HoldsState self.old) (F.told folder.old) (F.told folder.new) moment (to_open handle key.now) }
 
-        // What the names and the key tell is refused on every folder, and a refusal does nothing.
+        // What the names and the key alone decide is refused on every folder, and a refusal does nothing.
         ensures refuses { IfSome (open_refusal self.old.handles handle key.now) (λ why. result ≡ Ok (answer.Refused why)) }
         ensures quiet { IfOk result (λ answer. IsRefused answer → Stays (F.told folder.old) (F.told folder.new)) }
         ensures unchanged { IfOk result (λ answer. IsRefused answer → self.new ≡ self.old) }
@@ -67,7 +67,7 @@ impl Cache {
         Ok(Answer::Done)
     }
 
-    // The refusals of an Open that the key and the table of handles tell.
+    // The refusals of an Open that the key and the table of handles alone decide.
     pub(crate) fn refuses_open(&self, handle: u16, key: &[u8]) -> Option<Refusal>
         ensures { result ≡ open_refusal self.now.handles handle key.now }
     {

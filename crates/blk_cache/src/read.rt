@@ -29,7 +29,7 @@ impl Cache {
     ///
     /// It is refused with `BadHandle` where the name is free, or 4096 or more, `BadStream` where the number of the stream
     /// is 3 or more, and `SparseStream` where the object is sparse and the number isn't 0, the first of these. One folder
-    /// call reads the record, and at most 36 use the item.
+    /// call reads the record, and at most 36 access the item.
     pub(crate) fn use_read<F: Folder>(
         &self,
         folder: &mut F,

@@ -23,8 +23,8 @@ pub(crate) struct ReadRange {
 }
 
 impl Cache {
-    /// Prints the line of a Read that was used: the number of bytes that there are from the offset on, which its answer
-    /// told, and then the bytes.
+    /// Prints the line of a Read that was done: the number of bytes that there are from the offset on, which its answer
+    /// gave, and then the bytes.
     ///
     /// Two folder calls are made for each 4096 bytes. Nothing is written. Where the handle names no object, or no stream
     /// has that number, nothing is printed. After a fault a prefix of the line is printed.
@@ -61,7 +61,7 @@ impl Cache {
     }
 }
 
-// Whether an object has a stream with this number, and so many bytes from an offset on end where a u64 can tell.
+// Whether an object has a stream with this number, and so many bytes from an offset on end at a number that a u64 has.
 fn can_be_read(stream: u8, offset: u64, number: u64) -> bool
     ensures is { result ≡ can_be_read stream offset number }
     ensures few { offset < 2 ^ 64 }

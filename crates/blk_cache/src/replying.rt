@@ -21,7 +21,7 @@ use blk_model::{Answer, Command};
 use blk_script::print_reply;
 
 impl Cache {
-    /// Prints the reply of a command that is done, unless the sink failed before: the bytes of a Read or a SparseRead
+    /// Prints the reply of a command that is done, unless the output failed before: the bytes of a Read or a SparseRead
     /// and the rows of a List as the folder has them now, and else the line of the answer.
     ///
     /// Nothing is written. After a fault a prefix of the reply is printed.
@@ -120,7 +120,7 @@ impl Cache {
     }
 }
 
-// Prints the line of an answer, unless the sink failed before.
+// Prints the line of an answer, unless the output failed before.
 fn say_answer<K: Sink>(out: &mut K, failed: &mut bool, answer: &Answer)
     requires has_line { (n : ℕ) → answer.now ≢ Answer.Bytes n }
     ensures prints { PrintsUnlessFailed failed.old failed.new (K.written out.old) (K.written out.new) (reply_text (answered answer.now)) }

@@ -2,7 +2,7 @@
 ghost use Rattle.blk_cache.specs.RoomKept.{EvictedStatesAreKept, NamedObjectsLieApart, WholeGroupsLieApart};
 ghost use Rattle.blk_cache.specs.RoomTold.{NamedObjectsArePinned, RoomIsMade, RoomIsTold};
 
-/// Where no part is in range, exactly the objects that handles name are pinned; so the counters of a cache tell whether there is space.
+/// Where no part is in range, exactly the objects that handles name are pinned; so the counters of a cache decide whether there is space.
 pub fn named_objects_are_pinned()
     ensures pinned { NamedObjectsArePinned }
     ensures told { RoomIsTold }

@@ -18,7 +18,7 @@ use blk_ranges::PART_SIZE;
 
 impl Cache {
     /// Prints the line of a SparseRead that was done: the number of bytes that are present from `offset` on, which its
-    /// answer told, and then the bytes.
+    /// answer gave, and then the bytes.
     ///
     /// Nothing is written. Where the handle names no object, or so many bytes end past where sparse data does, nothing is
     /// printed. After a fault a prefix of the line is printed.

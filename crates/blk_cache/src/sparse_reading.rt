@@ -19,7 +19,7 @@ use blk_io::{Fault, Folder};
 use blk_model::{Answer, Refusal};
 use blk_sparse::use_range;
 
-/// What is told of the sparse data that a command covers.
+/// What is asked of the sparse data that a command covers.
 #[derive(Clone, Copy, PartialEq, Eq)]
 pub(crate) enum Wanted {
     /// How many bytes there are from the offset on, which are printed then: a SparseRead.
@@ -30,7 +30,7 @@ pub(crate) enum Wanted {
 
 impl Cache {
     /// Does all of a SparseRead or a SparseRange that writes: the item of its object is put in front of the LRU list, and
-    /// then each part that the bytes cover and that there is, in rising number. The answer tells what is wanted of the
+    /// then each part that the bytes cover and that there is, in rising number. The answer gives what is wanted of the
     /// first run of present bytes.
     ///
     /// It is refused with `BadHandle` where the name is free, or 4096 or more, `TooLarge` where there are more than 1048576

@@ -17,7 +17,7 @@ use blk_io::{Fault, Folder};
 use blk_model::Refusal;
 use blk_sparse::{Parent, Target};
 
-// A signature is a moment below this.
+// A generation is a moment below this.
 const SIGNATURES: u64 = 1 << 63;
 
 /// The object that a SparseWrite names, or why it is refused, but for lack of space.
@@ -29,7 +29,7 @@ pub(crate) enum AskedTarget {
 
 impl Cache {
     /// The object that a handle names, for some bytes of sparse data from an offset on; a plain one gets the moment as its
-    /// signature. Nothing is written.
+    /// generation. Nothing is written.
     ///
     /// It is refused as `ask_sparse` tells, and then with `NotSparse` where it is plain and has more than one stream.
     pub(crate) fn ask_target<F: Folder>(

@@ -42,7 +42,7 @@ pub(crate) struct SparseRequest<'a> {
 impl Cache {
     /// Writes some bytes of sparse data to the object that a handle names, from an offset on. Space for what is added is
     /// made first, beside the parts that the bytes cover; what is evicted for that is printed as it goes. Then the object
-    /// becomes dirty; it becomes sparse where it is plain, with the moment as its signature; its item is put in front of
+    /// becomes dirty; it becomes sparse where it is plain, with the moment as its generation; its item is put in front of
     /// the LRU list, and each covered part, made where there is none, gets its bytes and is put in front. Where there are
     /// no bytes the item is put in front, and nothing else is done.
     ///

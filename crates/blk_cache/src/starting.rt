@@ -24,9 +24,9 @@ use std::alloc::Global;
 
 impl Cache {
     /// Opens the folder for a session. An uninitialized one is made, and the moment, in microseconds since 1970 UTC, is kept
-    /// in it; any other is checked and repaired, so that it keeps what was found in it. No handle name is bound.
+    /// in it; any other is checked and recovered, so that it keeps its recovered contents. No handle name is bound.
     ///
-    /// The last step makes the crash word 1, in a session with the next number; the first where the folder was made. It
+    /// The last step makes the crash word 1, in a session with the next number; the first where the folder was made. An opening
     /// may crash anywhere and be begun again.
     ///
     /// # Errors

@@ -34,7 +34,7 @@ impl Cache {
     ///
     /// # Errors
     ///
-    /// `Sink` where the sink failed in this call: the command is done all the same, and noted. `Device` where the folder
+    /// `Sink` where the output failed in this call: the command is done all the same, and noted. `Device` where the folder
     /// failed, and `Damaged` where it is opaque and a check failed: then nothing is promised of the cache but that it can
     /// be dropped, and the folder may be opened again.
     pub fn step<F: Folder, K: Sink>(
@@ -46,7 +46,7 @@ impl Cache {
     ) -> Result<Answer, StepFault>
         requires is_open { ForSome (F.told f.old).files (IsOpen self.old.files) }
 
-        // The answer is the model's, and the state after the command is kept, also where only the sink failed.
+        // The answer is the model's, and the state after the command is kept, also where only the output failed.
         ensures answered { IfOk result (λ answer. ForKept (KeepsState self.old) (F.told f.old) (λ state. answer ≡ answer_of (step state moment (request_of command.now)).reply)) }
         ensures kept { IfDone result (ForKept (KeepsState self.old) (F.told f.old) (λ state. ForSome (F.told f.new).files (KeepsState self.new (step state moment (request_of command.now)).state))) }
 
@@ -61,7 +61,7 @@ impl Cache {
         // A command that is refused makes its note alone.
         ensures alone { IfOk result (λ answer. IsRefused answer → Applies (F.told f.old) (F.told f.new) (Note (note_number (self.old.notes + 1)) ∷ [])) }
 
-        // A command that the model refuses makes its note alone, also where only the sink failed.
+        // A command that the model refuses makes its note alone, also where only the output failed.
         ensures refused { IfDone result (ForKept (KeepsState self.old) (F.told f.old) (λ state. IsRefused (answer_of (step state moment (request_of command.now)).reply) → Applies (F.told f.old) (F.told f.new) (Note (note_number (self.old.notes + 1)) ∷ []))) }
 
         // A Flush of a clean object makes its note alone.

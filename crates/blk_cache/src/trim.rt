@@ -20,7 +20,7 @@ use blk_io::{Fault, Folder, Sink};
 use blk_model::Answer;
 
 impl Cache {
-    /// Evicts groups from the back of the LRU list, until no more than so many bytes are left or each item is pinned, and
+    /// Removes eviction units from the back of the LRU list, until no more than so many bytes are left or each item is pinned, and
     /// prints what is evicted. It answers how many items were evicted, and is never refused.
     ///
     /// After a fault nothing is promised of the cache but that it can be dropped.

@@ -211,7 +211,7 @@ impl Cache {
         self.ask_stream(folder, handle, stream)
     }
 
-    // Why a Write is refused, by what the names, the number of the stream and the length tell.
+    // Why a Write is refused, as far as the names, the number of the stream and the length decide.
     fn refuses_length(&self, handle: u16, stream: u8, offset: u64, count: u64) -> Option<Refusal>
         ensures { result ≡ early_write_refusal self.now handle stream offset count }
     {

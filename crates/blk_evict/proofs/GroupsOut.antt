@@ -1,4 +1,4 @@
--- The last item that isn't pinned, by its record, and what is left once its group is out.
+-- The last item that isn't pinned, by its record, and what is left once its eviction unit is out.
 use Rattle.std.proofs.Common.{◌≡◌, ℕ, ◌≤◌, Bool, true, false, List, [], ◌∷◌, length, map, take, Option, Some, None, Result, Ok, Err, inl, refl, sym, ap, subst, ◌∙◌, arith, append-nil, ⊎_elim}
 use Rattle.std.specs.Prelude.{◌&&◌, ◌==◌, IfOk, IfSome, OnOk, if◌then◌else◌, is_some, not, slice_set}
 use Rattle.std.specs.List.{cons_option, filter_map, flat_map, sum_by}
@@ -202,7 +202,7 @@ none-among key (part other n ∷ items) none = ⊎_elim
     (λ (e : bytes_eq key other ≡ false). ap (λ (b : Bool). cons_option (if b then Some n else None) (filter_map (part_number key) items)) e ∙ none-among key items (λ m there. none m (or_right (bytes_eq key other && m == n) (is_in items (part key m)) there)))
     (cases_Bool (bytes_eq key other))
 
--- a state without an item that goes alone, as it is without its group
+-- a state without an item that goes alone, as it is without its eviction unit
 pub record GoesSo (state : State) (layout : Layout) (group : Group) (item : Item) (node entry : ℕ) (before : Option ℕ) : Type 0 where
   pub objects : List (Option Object)
   pub keep : Item → Bool
@@ -225,7 +225,7 @@ module _ (state : State) (layout : Layout) (image : Image) (k : KeepsUncounted s
   main-plain key is here false kind = kind
 
   module _ (b : Bool) (kind : kind_of_role loaded.role ≡ alone_kind b) where
-    -- the group is the item alone
+    -- the eviction unit is the item alone
     pub group-alone : (item : Item) → MayGo state front item behind → layout.at (layout.place item) ≡ Some loaded → items_of_group (group_for item front) ≡ item ∷ []
     group-alone (part key n) is here = refl
     group-alone (main key) is here =
@@ -293,7 +293,7 @@ module _ (state : State) (layout : Layout) (image : Image) (k : KeepsUncounted s
     pub child-alone : (item : Item) → MayGo state front item behind → layout.at (layout.place item) ≡ Some loaded → is_child_item item ≡ b
     child-alone item is here = ap is_child_item (sym (said-is state layout [] image k item loaded (last-listed item is) here)) ∙ child-of loaded.key loaded.streams loaded.role b kind
 
-    -- once it is removed its group is out
+    -- once it is removed its eviction unit is out
     pub alone-out : (item : Item) (is : MayGo state front item behind) → layout.at (layout.place item) ≡ Some loaded → (node entry : ℕ) (before : Option ℕ) → (g : GoesSo state layout (group_for item front) item node entry before) → layout.place item ≡ node
         → (now : Image) → Keeps (without_items state g.objects g.keep) (layout_removed layout node entry) [] now → (charge : ℕ) → charge ≡ charge_of loaded → SameSession image now → IsGroupOut state layout (group_for item front) (record { items = 1; bytes = charge }) image now
     alone-out item is here node entry before g node_is now kept charge charged session = record {

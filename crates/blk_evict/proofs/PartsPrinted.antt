@@ -11,7 +11,7 @@ use Rattle.blk_io.specs.Streams.{Appends, GoesOn}
 use Rattle.blk_io.proofs.GoingOn.{goes_on, stays_on}
 use Rattle.blk_evict.proofs.RoomTexts.{appends-longer, faults-on, none-printed, printed-on, same-fails}
 
--- some parts of a key were printed, unless the sink failed
+-- some parts of a key were printed, unless the output failed
 pub record HavePrinted {K : Type 0} (is : K → List ℕ) (written : K → Option (List ℕ)) (faults : K → ℕ) (key : List ℕ) (failed_before failed : Bool) (old new : K) (numbers : List ℕ) : Type 0 where
   pub prints : PrintsUnlessFailed failed_before failed (written old) (written new) (text_of_parts key numbers)
   pub fails : FailsWhereItRose failed_before failed (faults old) (faults new)

@@ -1,4 +1,4 @@
--- Fewer items and fewer bytes without a group.
+-- Fewer items and fewer bytes without an eviction unit.
 use Rattle.std.proofs.Common.{◌≡◌, ℕ, suc, ◌+◌, ◌≤◌, Bool, true, false, not, ◌&&◌, ◌||◌, cond, List, [], ◌∷◌, ◌++◌, length, map, Option, Some, None, is_some, refl, sym, ap, subst, ◌∙◌, arith}
 use Rattle.std.specs.List.{filter, filter_map, cons_option, count_by, sum_by}
 use Rattle.std.specs.Option.{option_and_then, option_map, option_map_or}
@@ -86,7 +86,7 @@ abbrev HasParts : Item → List Item → List Item → Type 0
 HasParts (main key) front all = parts_among key front ≡ parts_among key all
 HasParts (part key n) front all = Unit {0}
 
--- what goes with the group of an item of a list
+-- what goes with the eviction unit of an item of a list
 group-sum : (w : Item → ℕ) (item : Item) (front all : List Item) → HasParts item front all → times item all ≡ 1 → sum_by w (filter (is_out (group_for item front ∷ [])) all) ≡ sum_by w (items_of_group (group_for item front))
 group-sum w (main key) front all parts once =
     ap (sum_by w) (same-filter (is_out (group_for (main key) front ∷ [])) (λ i. bytes_eq key (key_of i)) all (λ i. or-none (bytes_eq key (key_of i))))

@@ -1,4 +1,4 @@
--- Groups that are evicted one after another, from the back of the LRU list as it is then.
+-- Eviction units that are evicted one after another, from the back of the LRU list as it is then.
 use Rattle.std.proofs.Common.{◌≡◌, inl, inr, ℕ, ◌+◌, Bool, true, false, ◌||◌, cond, List, [], ◌∷◌, ◌++◌, Some, None, Option, refl, sym, ap, subst, ◌∙◌, reverse, append-nil, append_assoc, map, ⊎_elim}
 use mathlib.Core.List.{reverse-cons}
 use Rattle.std.specs.List.{AllByRecursion, cons_option, list_any}
@@ -25,7 +25,7 @@ or-none false e = refl
 
 -- ---- from the back
 
--- what stays once the group of an item is gone
+-- what stays once the eviction unit of an item is gone
 next : (Item → Bool) → Item → Item → Bool
 next stays (main key) = λ other. stays other || bytes_eq key (key_of other)
 next stays (part key n) = stays
@@ -77,7 +77,7 @@ back-of front item behind =
     ∙ ap (λ (l : List Item). l ++ reverse front) (reverse-cons item behind)
     ∙ append_assoc (reverse behind) (item ∷ []) (reverse front)
 
--- the first group that could be evicted is that of the last item that isn't pinned
+-- the first eviction unit that could be evicted is that of the last item that isn't pinned
 first-back : (state : State) (covered front : List Item) (item : Item) (behind : List Item) → IsLastUnpinned state covered front item behind
     → groups_from_back (is_pinned state covered) (reverse state.uses) ≡ group_for item front ∷ groups_from_back (next (is_pinned state covered) item) (reverse front)
 first-back state covered front item behind is =
@@ -114,7 +114,7 @@ unfolding evicted_until
 nothing-more enough state covered (inl e) = none-shortest (λ groups. enough (without groups state)) (groups_from_back (is_pinned state covered) (reverse state.uses)) (ap enough (without-none state) ∙ e)
 nothing-more enough state covered (inr all) = ap (shortest (λ groups. enough (without groups state)) []) (none-back (is_pinned state covered) state.uses all)
 
--- a group is evicted for an item that isn't pinned
+-- an eviction unit is evicted for an item that isn't pinned
 pub loose-for : (stays : Item → Bool) (item : Item) (front : List Item) → stays item ≡ false → IsLoose stays (group_for item front)
 loose-for stays (main key) front e = e
 loose-for stays (part key n) front e = e
@@ -197,7 +197,7 @@ last-goes state covered front (main key) behind named is = record {
   same : (other : List ℕ) → main key ≡ main other → key ≡ other
   same other e = ap key_of e
 
--- a main item that is pinned isn't in the group of an item that may be evicted
+-- a main item that is pinned isn't in the eviction unit of an item that may be evicted
 pinned-stays : (state : State) (front : List Item) (item : Item) (behind : List Item) (key : List ℕ) → MayGo state front item behind → is_pinned state [] (main key) ≡ true → is_out (group_for item front ∷ []) (main key) ≡ false
 pinned-stays state front (part other n) behind key goes pinned = refl
 pinned-stays state front (main other) behind key goes pinned = or-none (bytes_eq other key) (⊎_elim

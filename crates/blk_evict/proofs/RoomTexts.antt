@@ -1,4 +1,4 @@
--- Texts that are printed one after another, unless the sink failed.
+-- Texts are printed one after another, unless the output failed.
 use Rattle.std.proofs.Common.{◌≡◌, ℕ, Bool, true, false, List, [], ◌++◌, Option, Some, None, refl, sym, ap, subst, ◌∙◌, append_assoc, append-nil, arith}
 use Rattle.std.specs.Option.{option_map}
 use Rattle.blk_io.specs.Streams.{Appends}
@@ -61,13 +61,13 @@ pub faults-on : FaultsGoOn
 faults-on before true failed f0 f1 f2 one two le more = λ was now small. let up = one was refl (omega (arith, more, small)) in omega (arith, up, more)
 faults-on before false failed f0 f1 f2 one two le more = λ was now small. let up = two refl now small in omega (arith, up, le)
 
--- ---- fronts of texts
+-- ---- prefixes of texts
 
 -- a prefix of a text is one of a longer text
 pub appends-longer : (w0 w1 : Option (List ℕ)) (a b : List ℕ) → Appends w0 w1 a → Appends w0 w1 (a ++ b)
 appends-longer w0 w1 a b one = record { front = one.front; rest = one.rest ++ b; split = ap (λ (l : List ℕ). l ++ b) one.split ∙ append_assoc one.front one.rest b; written = one.written }
 
--- a text was printed, and then a prefix of another one, or nothing where the sink failed
+-- a text was printed, and then a prefix of another one, or nothing where the output failed
 pub appends-after : (failed_before failed : Bool) (w0 w1 w2 : Option (List ℕ)) (a b : List ℕ) → PrintsUnlessFailed failed_before failed w0 w1 a → (failed ≡ true → w2 ≡ w1) → Appends w1 w2 b → Appends w0 w2 (a ++ b)
 appends-after failed_before failed w0 w1 w2 a b one quiet more = go failed refl where
   went-on : failed ≡ false → Appends w0 w2 (a ++ b)
@@ -85,7 +85,7 @@ appends-after failed_before failed w0 w1 w2 a b one quiet more = go failed refl 
 clash : true ≡ false → ⊥
 clash h = cc
 
--- a sink that is found to fail no more than before
+-- an output that is found to fail no more than before
 pub same-fails : (failed : Bool) (before now : ℕ) → FailsWhereItRose failed failed before now
 same-fails failed before now was is = absurd (clash (sym is ∙ was))
 

@@ -1,4 +1,4 @@
--- An object with an index goes with its parts: what is left once its group is out, and what is printed.
+-- An object with an index goes with its parts: what is left once its eviction unit is out, and what is printed.
 use Rattle.std.proofs.Common.{◌≡◌, ℕ, Bool, true, false, List, [], ◌∷◌, ◌++◌, length, map, Option, Some, None, refl, sym, ap, subst, ◌∙◌, arith, append-nil}
 use Rattle.std.specs.Prelude.{◌&&◌, ◌==◌, IfSome, if◌then◌else◌}
 use Rattle.std.specs.List.{AllByRecursion, cons_option, filter_map, flat_map, sum_by}
@@ -38,7 +38,7 @@ use Rattle.blk_sparse.specs.Parents.{IsGoneWhole, IsGroupTold, MayGoWhole}
 use Rattle.blk_evict.proofs.GroupsOut.{charged-is, last-listed, main-is, owner-is, owner-unnamed}
 use Rattle.blk_evict.proofs.RoomApart.{key-apart}
 
--- ---- the costs of the items of a group
+-- ---- the costs of the items of an eviction unit
 
 module _ (state : State) (layout : Layout) (unlinked : List ℕ) (image : Image) (k : KeepsUncounted state layout unlinked image) where
   pub charges-are : (items : List Item) → AllByRecursion (λ item. is_listed state item ≡ true) items → charges_at layout (nodes_of layout items) ≡ sum_by (item_charge state) items

@@ -40,7 +40,7 @@ kind_said flags = if flags == parent then Parent else if flags == child then Par
 abbrev pub IsItemName : (entry : ℕ) → List ℕ → Image → Type 0
 IsItemName entry name image = key_bytes image entry ≡ name
 
--- `named` tells the kind and the cost of an entry, and its key is at the front of `bytes`
+-- `named` has the kind and the cost of an entry, and its key is at the front of `bytes`
 pub record IsNamedAs (loaded : Loaded) (named : Named) (bytes : List ℕ) : Type 0 where
   pub kind : named.kind ≡ kind_of_role loaded.role
   pub charge : named.owned.charge ≡ charge_of loaded
@@ -77,13 +77,13 @@ alone_kind is_child = if is_child then Part else Plain
 abbrev pub text_of_parts : List ℕ → List ℕ → List ℕ
 text_of_parts key numbers = flat_map evicted_line (map (part key) numbers)
 
--- `gone` tells the number of items of an eviction unit, and the sum of their costs
+-- `gone` has the number of items of an eviction unit, and the sum of their costs
 pub record AreOfGroup (state : State) (group : Group) (gone : Gone) : Type 0 where
   pub items : gone.items ≡ length (items_of_group group)
   pub bytes : gone.bytes ≡ sum_by (item_charge state) (items_of_group group)
 
 -- the eviction unit is removed: the folder keeps the state without it in the same session, the other items and the objects that handles name have the nodes
--- that they had, and `gone` tells what was removed
+-- that they had, and `gone` has the counts of what was removed
 pub record IsGroupOut (state : State) (layout : Layout) (group : Group) (gone : Gone) (from image : Image) : Type 0 where
   pub left : Layout
   pub kept : Keeps (without (group ∷ []) state) left [] image

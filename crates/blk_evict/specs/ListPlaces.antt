@@ -43,7 +43,7 @@ pub record MayGoAt (state : State) (layout : Layout) (found : Unpinned) : Type 0
   pub here : layout.at (layout.place item) ≡ Some loaded
   pub entry : found.entry ≡ loaded.contents
 
--- the last item that isn't pinned, with the parts in range pinned too, has this node and this record; it may be evicted, and the node after it is told
+-- the last item that isn't pinned, with the parts in range pinned too, has this node and this record; it may be evicted, and the node after it is given
 pub record IsLastAt (state : State) (layout : Layout) (covered : List Item) (found : Unpinned) : Type 0 where
   pub goes : MayGoAt state layout found
   pub last : IsLastUnpinned state covered goes.front goes.item goes.rest

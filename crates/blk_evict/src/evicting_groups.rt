@@ -37,7 +37,7 @@ use blk_ranges::{ChildName, KEY_OF_NAME, LONGEST_KEY, read_child_name};
 use blk_record::{CHILD, EntryView};
 use blk_sparse::{Gone, remove_parent_with};
 
-/// Evicts the group of an item that isn't pinned, and prints its items: a main item with its parts, or a part alone. How
+/// Removes the eviction unit of an item that isn't pinned, and prints its items: a main item with its parts, or a part alone. How
 /// many items were evicted is given, and the sum of their costs.
 ///
 /// Its key or name is read into `name`. A failed check is one of the reading, a key that is none, or one of the

@@ -1,4 +1,4 @@
-//! The laws of groups that are evicted and of texts that are printed, each the contract of a function with an empty
+//! The laws of eviction units that are evicted and of texts that are printed, each the contract of a function with an empty
 //! body.
 ghost use Rattle.blk_evict.specs.RoomLaws.{CoveredPartsStayOfNamed, GroupsAreCountedLess, ItemsThatStayArePinnedAsBefore, NothingMoreGoes, TheLastUnpinnedMayGo, TheLastUnpinnedGoesNext, TheOthersGoFromWhatIsLeft};
 ghost use Rattle.blk_evict.specs.RoomPrinting.{FaultsGoOn, NothingIsPrinted, PrintsGoOn};

@@ -10,7 +10,7 @@ use blk_io::Sink;
 use blk_script::Field::{self, Key, Number, Word};
 use blk_script::print_fields;
 
-/// Prints that a main item was evicted, unless the sink failed before.
+/// Prints that a main item was evicted, unless the output failed before.
 pub(crate) fn say_evicted<K: Sink>(out: &mut K, failed: &mut bool, key: &[u8])
     ensures prints { PrintsUnlessFailed failed.old failed.new (K.written out.old) (K.written out.new) (evicted_line (main key.now)) }
     ensures failed { FailsWhereItRose failed.old failed.new (K.faults out.old) (K.faults out.new) }
@@ -19,7 +19,7 @@ pub(crate) fn say_evicted<K: Sink>(out: &mut K, failed: &mut bool, key: &[u8])
     say(out, failed, &[Word("evicted"), Key(key)]);
 }
 
-/// Prints that a part was evicted, unless the sink failed before.
+/// Prints that a part was evicted, unless the output failed before.
 pub(crate) fn say_evicted_part<K: Sink>(out: &mut K, failed: &mut bool, key: &[u8], number: u64)
     ensures prints { PrintsUnlessFailed failed.old failed.new (K.written out.old) (K.written out.new) (evicted_line (part key.now number)) }
     ensures failed { FailsWhereItRose failed.old failed.new (K.faults out.old) (K.faults out.new) }
@@ -32,7 +32,7 @@ pub(crate) fn say_evicted_part<K: Sink>(out: &mut K, failed: &mut bool, key: &[u
     );
 }
 
-/// Prints a line, unless the sink failed before.
+/// Prints a line, unless the output failed before.
 pub fn say<K: Sink>(out: &mut K, failed: &mut bool, fields: &[Field])
     ensures prints { PrintsUnlessFailed failed.old failed.new (K.written out.old) (K.written out.new) (line (map field_text fields.now)) }
     ensures failed { FailsWhereItRose failed.old failed.new (K.faults out.old) (K.faults out.new) }

@@ -49,7 +49,7 @@ impl Counts {
 
     /// Prints the counts, on a line.
     ///
-    /// Where the sink fails, a prefix of the line may have been printed.
+    /// Where the output fails, a prefix of the line may have been printed.
     pub fn print_counts<K: Sink>(&self, out: &mut K) -> Result<(), Failed>
         ensures steps { OnOk result (K.written out.new ≡ option_map (λ w. w ++ counts_line self.now) (K.written out.old)) }
         ensures prefix { Appends (K.written out.old) (K.written out.new) (counts_line self.now) }

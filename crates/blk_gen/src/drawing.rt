@@ -79,7 +79,7 @@ impl Turn {
     }
 }
 
-// Puts bytes after what is in front, and tells where they end.
+// Puts bytes after what is in front, and gives where they end.
 fn put(buffer: &mut [u8], at: usize, bytes: &[u8]) -> usize
     requires { at + length bytes.now ≤ length buffer.old }
     ensures within { result ≡ at + length bytes.now }

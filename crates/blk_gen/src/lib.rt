@@ -1,7 +1,7 @@
 //! The generator: commands that are drawn from a number, and what is counted of them.
 //!
 //! An iteration draws a key, a stream and how many bytes are written; what it asks of a cache then is the script
-//! `gen_script` of `specs/Generator`. What is drawn is told in `specs/Draws`. No call takes memory.
+//! `gen_script` of `specs/Generator`. What is drawn is specified in `specs/Draws`. No call takes memory.
 #![tactic(auto)]
 
 ghost use Rattle.blk_gen.specs.Laws.{CommandsOfTurnsAreFew, TurnsSayTheirCounts};

@@ -144,7 +144,7 @@ module _ (s t : Slab OpenObject) (k : ℕ) (o new : OpenObject) (here : get s k 
     | inr other ↦ ap (option_map binding) (updates.others j other)
   ]
 
-  -- new marks are seen by all names of the object
+  -- a change of an object is seen by all its names
   pub changed-shown : AreDistinct s → (change : Binding → Binding) → binding new ≡ change (binding o) → (x : Option ℕ) → shown t x ≡ option_map (λ object. if o.entry == object.entry then change object else object) (shown s x)
   changed-shown distinct change is None = refl
   changed-shown distinct change is (Some j) = elim (cases_eq j k) [
@@ -338,7 +338,7 @@ module _ (ns : List (Option ℕ)) (s : Slab OpenObject) (sound : AreNamesStored 
     by [] = refl
     by (x ∷ xs) = rw (by xs, changed-shown s t k o new here updates sound.distinct change is x) refl
 
-  -- the object that is told
+  -- the object stored at a key is the open object of its binding
   pub told : (k : ℕ) (o : OpenObject) → get s k ≡ Some o → open_object (bindings_of ns s) (binding o) ≡ o
   told k o here = ap (λ n. record o { names = n }) (names-counted s sound.distinct k o here ns ∙ sym (names-are k o here))
 
@@ -381,7 +381,7 @@ module _ (ns : List (Option ℕ)) (s : Slab OpenObject) (sound : AreNamesStored 
       rw (closed-with s entry closed ns) (shown-add ns s sound t name k new vacant updates ∙ ap (λ b. set (bindings_of ns s) name (Some b)) is)
 
 module _ (ns : List (Option ℕ)) (s : Slab OpenObject) (sound : AreNamesStored ns s) where
-  -- the object that a name is bound to, as it is told
+  -- the stored object that a name is bound to is the open object of the name's binding
   pub object-free : (name : ℕ) → get_or ns name None ≡ None → None ≡ option_map (open_object (bindings_of ns s)) (binding_of (bindings_of ns s) name)
   object-free name free = rw (binding-at s ns name, free) refl
 
@@ -390,7 +390,7 @@ module _ (ns : List (Option ℕ)) (s : Slab OpenObject) (sound : AreNamesStored 
       let (o, here) = there (get s k) (stored ns s sound name k is) in
       rw (bound-slot ns s sound name k o is here) (here ∙ ap Some (sym (told ns s sound k o here)))
 
-  -- the open object with a record, as it is told
+  -- the stored object with a record is the open object of the binding with this record
   pub object-closed : (entry : ℕ) → IsClosed s entry → None ≡ option_map (open_object (bindings_of ns s)) (open_with (bindings_of ns s) entry)
   object-closed entry closed = rw (closed-with s entry closed ns) refl
 
@@ -402,7 +402,7 @@ module _ (ns : List (Option ℕ)) (s : Slab OpenObject) (sound : AreNamesStored 
   pinned entry None at closed = sym (closed-open s entry closed ns)
   pinned entry (Some k) at closed = sym (is-opened ns s sound entry k at at.object at.here)
 
-  -- new marks by a name
+  -- an object is changed by one of its names
   pub marks : (t : Slab OpenObject) (name k : ℕ) → get_or ns name None ≡ Some k → (o new : OpenObject) → get s k ≡ Some o → Updates s t k (Some new) → (change : Binding → Binding) → binding new ≡ change (binding o)
       → IfSome (binding_of (bindings_of ns s) name) (λ object. bindings_of ns t ≡ with_change change object.entry (bindings_of ns s))
   marks t name k is o new here updates change same = rw (bound-slot ns s sound name k o is here) (shown-change ns s sound t k o new here updates change same)
@@ -445,7 +445,7 @@ module _ (ns : List (Option ℕ)) (s : Slab OpenObject) (sound : AreNamesStored 
       sound-change ns s sound t k (Some new) updates distinct (λ p is. rw (← some-inj is) (omega (arith, same, sound.some_name k o here))) (same ∙ ap (λ p. option_map_or (λ (x : OpenObject). x.names) p 0) (sym here)) len
 
   module _ (name k : ℕ) (is : get_or ns name None ≡ Some k) (o : OpenObject) (here : get s k ≡ Some o) where
-    -- the object is told where its last name is released
+    -- the object is the answer where its last name is released
     pub told-last : Updates s t k None → (r : OpenObject) → get s k ≡ Some r
         → IfSome (binding_of (bindings_of ns s) name) (λ object. Last r ≡ (if is_open (bindings_of (set ns name None) t) object.entry then More else Last (open_object (bindings_of ns s) object)))
     told-last updates r here-r = rw (bound-slot ns s sound name k o is here, closed-open t o.entry closed (set ns name None)) (ap Last (some-inj (sym here-r ∙ here) ∙ sym (told ns s sound k o here))) where

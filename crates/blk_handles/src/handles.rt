@@ -16,7 +16,7 @@ pub const NAMES: u16 = 4096;
 /// The handle names, 0 to 4095, and the objects that they are bound to.
 ///
 /// They are seen as a finite map: what each name is bound to, if it is bound. Names of one record
-/// share one object, so a mark that is set by one of them is seen by all. An object is open, and
+/// share one object, so a flag that is set by one of them is seen by all. An object is open, and
 /// its record pinned, as long as a name is bound to it.
 #[derive(Debug, Drop)]
 pub struct Handles {
@@ -55,7 +55,7 @@ impl Handles {
     }
 
     /// Binds a free name to the object with a record. Where the object is open, the name joins it,
-    /// and its marks stay. Else it is opened, with its node and this dirty mark, and isn't doomed.
+    /// and its flags stay. Else it is opened, with its node and this dirty flag, and isn't doomed.
     pub fn bind(&mut self, name: u16, entry: Addr, node: Addr, dirty: bool)
         requires known { name < handle_names }
         requires free { binding_of self.old name ≡ None }
@@ -103,7 +103,7 @@ impl Handles {
         self.objects.get(key)
     }
 
-    /// Sets both marks of the object that a name is bound to, for all its names.
+    /// Sets the doomed flag and the dirty flag of the object that a name is bound to, for all its names.
     pub fn mark(&mut self, name: u16, doomed: bool, dirty: bool)
         requires bound { IsSome (binding_of self.old name) }
         ensures marks { IfSome (binding_of self.old name) (λ object. self.new ≡ with_change (with_status doomed dirty) object.entry self.old) }

@@ -12,7 +12,7 @@ pub struct OpenObject {
     pub names: u16,
     /// whether it was doomed
     pub doomed: bool,
-    /// whether its record is marked dirty
+    /// whether it is dirty
     pub dirty: bool,
 }
 

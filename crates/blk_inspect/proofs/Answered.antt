@@ -63,7 +63,7 @@ failed {A} {B} r q e P is same cause = by_fault r q e (λ s. IfInspectDevice s P
     each (scan.Damaged damage) at = tt
     each scan.Memory at = tt
 
--- no sink failed
+-- no output failed
 pub no_sink : {A B : Type 0} (r : Result A ScanFault) (q : Result B InspectFault) (e : ScanFault) (P : Type 0) → r ≡ Err e → IsErrAnd q (λ (x : InspectFault). x ≡ inspect_fault e) → IfInspectSink q P
 no_sink {A} {B} r q e P is same = by_fault r q e (λ s. IfInspectSink s P) is same each
   where
@@ -72,7 +72,7 @@ no_sink {A} {B} r q e P is same = by_fault r q e (λ s. IfInspectSink s P) is sa
     each (scan.Damaged damage) at = tt
     each scan.Memory at = tt
 
--- what holds where the sink failed
+-- what holds where the output failed
 pub at_sink : {B : Type 0} (q : Result B InspectFault) (P : Result B InspectFault → Type 0) → IsErrAnd q (λ (x : InspectFault). x ≡ Sink) → P (Err Sink) → P q
 at_sink {B} (Ok b) P same holds = absurd same
 at_sink {B} (Err x) P same holds = subst (λ (y : InspectFault). P (Err y)) (sym same) holds

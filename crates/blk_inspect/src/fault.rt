@@ -9,7 +9,7 @@ pub enum InspectFault {
     Device,
     /// What the folder holds failed a check.
     Damaged(Damage),
-    /// The sink failed.
+    /// The output failed.
     Sink,
     /// Out of memory.
     Memory,

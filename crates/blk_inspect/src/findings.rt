@@ -33,7 +33,7 @@ pub(crate) enum Findings {
     Verdict(Scan),
 }
 
-/// Prints what was read, or a prefix of it where the sink fails.
+/// Prints what was read, or a prefix of it where the output fails.
 pub(crate) fn print_findings<K: Sink>(out: &mut K, findings: &Findings) -> Result<(), Failed>
     ensures steps { OnOk result (K.written out.new ≡ option_map (λ w. w ++ findings_text findings.now) (K.written out.old)) }
     ensures prefix { Appends (K.written out.old) (K.written out.new) (findings_text findings.now) }

@@ -37,14 +37,14 @@ pub enum Part {
 /// # Errors
 ///
 /// `Damaged` with the first check of the headers that fails; an observable folder reports no other failed check. `Device` where
-/// the folder failed in this call, `Sink` where the sink did, and `Memory` when out of memory.
+/// the folder failed in this call, `Sink` where the output did, and `Memory` when out of memory.
 pub fn inspect<F: Folder, K: Sink>(
     alloc: Global,
     f: &mut F,
     out: &mut K,
     part: &Part,
 ) -> Result<(), InspectFault>
-    // Exactly this text of the folder is printed, or a prefix of it where the sink failed.
+    // Exactly this text of the folder is printed, or a prefix of it where the output failed.
     ensures printed { ForSome (F.told f.old).files (λ image. PrintsAt result (inspect_text part.now image) (K.written out.old) (K.written out.new)) }
 
     // The folder decides the answer, but for failures and out of memory.
@@ -77,7 +77,7 @@ pub fn inspect<F: Folder, K: Sink>(
 ///
 /// Those of [`inspect`].
 pub fn verify<F: Folder, K: Sink>(alloc: Global, f: &mut F, out: &mut K) -> Result<(), InspectFault>
-    // Exactly this text of the folder is printed, or a prefix of it where the sink failed.
+    // Exactly this text of the folder is printed, or a prefix of it where the output failed.
     ensures printed { ForSome (F.told f.old).files (λ image. PrintsAt result (verify_text image) (K.written out.old) (K.written out.new)) }
 
     // The folder decides the answer, but for failures and out of memory.

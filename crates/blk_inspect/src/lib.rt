@@ -1,6 +1,6 @@
 //! What a cache folder holds, printed: its words, its lists, and a verdict on the whole.
 //!
-//! Everything is read before anything is printed, and nothing is written. `man/blkcache.1` tells the lines.
+//! Everything is read before anything is printed, and nothing is written. `man/blkcache.1` describes the lines.
 #![tactic(auto)]
 
 mod fault;

@@ -17,7 +17,7 @@ pub(crate) trait Row {
     /// The printed line.
     ghost text: { Self → List ℕ };
 
-    /// Prints the line, or a prefix of it where the sink fails.
+    /// Prints the line, or a prefix of it where the output fails.
     fn print<K: Sink>(&self, out: &mut K) -> Result<(), Failed>
         ensures steps { OnOk result (K.written out.new ≡ option_map (λ w. w ++ text self.now) (K.written out.old)) }
         ensures prefix { Appends (K.written out.old) (K.written out.new) (text self.now) }

@@ -18,7 +18,7 @@ use blk_script::print_fields;
 use blk_verdict::Reason;
 
 /// Prints how many nodes are kept, each node and record that is dropped with its reason, and the items and bytes of what
-/// is kept; or a prefix of these lines where the sink fails.
+/// is kept; or a prefix of these lines where the output fails.
 pub(crate) fn print_verdict<K: Sink>(out: &mut K, scan: &Scan) -> Result<(), Failed>
     ensures steps { OnOk result (K.written out.new ≡ option_map (λ w. w ++ scan_text scan.now) (K.written out.old)) }
     ensures prefix { Appends (K.written out.old) (K.written out.new) (scan_text scan.now) }

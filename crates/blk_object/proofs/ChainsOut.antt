@@ -166,7 +166,7 @@ module _ (layout : Layout) (chains : ℕ → List ℕ) (between : Image) (whole 
       let kind : kind_of v ≡ blocks_256 = (standing-parts between blocks_256 v (core-standing between v i.fields i.here)).1 in
       record_checks between v bytes kind (ap (λ (f : RecordFields). f.checks) (shown-fields between v i.fields i.here) ∙ i.good)
 
-  -- it can be unlinked, and the record before checks
+  -- it can be unlinked, and the checksum of the record before matches or is absent
   pub can-go : AreBytes between → CanBeUnlinked w before between × BeforeChecks before between
   can-go bytes = (
     record {

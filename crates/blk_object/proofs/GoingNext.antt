@@ -118,7 +118,7 @@ module _ (state : State) (layout : Layout) (keep : Item → Bool) (chains : ℕ 
     counted = next-counted state layout keep item u.was mid image k.valid p.lies.lies.listed p.lies.stays u.here (still-counted state layout keep from mid u.counters c) (subst (λ (w : ℕ). AreCountedLess w mid image) u.charge_is less);
   }
 
--- ---- what is told
+-- ---- observed files
 
 -- of an observable folder, read without a change, then changed by the call that takes out
 module _ (a r m : Told) (stays : r ≡ a) (state : State) (layout : Layout) (keep : Item → Bool) (chains : ℕ → List ℕ) (unlinked : List ℕ) (item : Item) (node entry : ℕ) (before : Option ℕ) (from : Image) (there : a.files ≡ Some from) (k : KeepsPartlyOut state layout keep chains unlinked from)
@@ -217,7 +217,7 @@ module _ (a m b : Told) (state : State) (layout : Layout) (keep : Item → Bool)
   pub next-keeps : ForSome m.files (λ at. ForSome b.files (AreCountedLess charge at)) → ForSome b.files (KeepsUnlinked unlinked from)
   next-keeps less image is = λ s n l u. counted-keeps charge unlinked gone-on.image image (less gone-on.image gone-on.is image is) s n l ((out gone-on.image gone-on.is).loads s n l u)
 
-  -- so it isn't silent in between
+  -- so the folder isn't opaque in between
   pub next-told : m.files ≡ None → a.files ≡ None
   next-told none = absurd (some-none (sym gone-on.is ∙ none))
 
@@ -256,7 +256,7 @@ module _ (a m b : Told) (state : State) (layout : Layout) (unlinked : List ℕ) 
   pub main-on : IsTold m (IsGoingOut node entry before from)
   main-on = next-on a a m refl state layout (λ item. true) layout.chains unlinked (main object.key) node entry before from there begins next stops
 
-  -- so it isn't silent in between
+  -- so the folder isn't opaque in between
   pub main-told : m.files ≡ None → a.files ≡ None
   main-told none = absurd (some-none (sym main-on.is ∙ none))
 

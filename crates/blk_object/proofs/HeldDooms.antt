@@ -226,7 +226,7 @@ module _ (a m b : Told) (state : State) (layout : Layout) (unlinked : List ℕ) 
   pub held-on : IsTold m (IsGoingOut node entry before from)
   held-on = main-on a m b state layout unlinked number object node entry before from there k can.lies.here can.lies.live p stops
 
-  -- so it isn't silent in between
+  -- so the folder isn't opaque in between
   pub held-told : m.files ≡ None → ⊥
   held-told none = some-none (sym held-on.is ∙ none)
 
@@ -282,7 +282,7 @@ module _ (a m b : Told) (state : State) (layout : Layout) (unlinked : List ℕ) 
   doomed-on : IsTold m (FindsEither state (doomed number state (Some object)))
   doomed-on = told_then a m from (FindsEither state (doomed number state (Some object))) there first
 
-  -- so it isn't silent in between
+  -- so the folder isn't opaque in between
   pub doomed-silent : m.files ≡ None → ⊥
   doomed-silent none = some-none (sym doomed-on.is ∙ none)
 

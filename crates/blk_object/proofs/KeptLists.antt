@@ -1,4 +1,4 @@
--- Inserts, removals and touches of nodes of a kept state.
+-- Inserts, removals and accesses of nodes of a kept state.
 use Rattle.std.proofs.Common.{◌≡◌, ℕ, ◌≤◌, List, ◌∷◌, ◌++◌, ap, sym, ◌∙◌, subst, lit≤, Some}
 use Rattle.std.specs.Option.{option_map}
 use Rattle.spec_image.specs.Image.{Image}
@@ -30,9 +30,9 @@ listed-amid state layout unlinked image item k listed =
     let order-is : order state layout ≡ nodes_of layout a.before ++ layout.place item ∷ nodes_of layout a.suffix = ap (nodes_of layout) a.is ∙ nodes-append layout a.before (item ∷ a.suffix) in
     record { prefix = nodes_of layout a.before; suffix = nodes_of layout a.suffix; rest = record { whole = subst (IsList (list_of image)) order-is k.represents.list; idle = k.represents.idle } }
 
--- ---- what is told
+-- ---- observed files
 
--- the folder after steps that were made is the one that is told
+-- the observed files after steps are those before, with the steps made
 pub told-after : (old new : Told) (steps : List TrailStep) (from image : Image) → Applies old new steps → old.files ≡ Some from → new.files ≡ Some image → after steps from ≡ image
 told-after old new steps from image applies there is = sym (some_inj (sym is ∙ applies.files ∙ ap (option_map (after steps)) there))
 
@@ -58,7 +58,7 @@ pub removals-done : RemovalsAreDone
 removals-done files node old new bytes is_open amid steps from there image is = let a = amid from there in
     subst (IsRemovalDone from node) (told-after old new (operation_steps remove node from) from image (steps from there) there is) (removal-done from node a.prefix a.suffix (writable files old from bytes there (is_open from there)) a.rest)
 
--- ---- touches
+-- ---- accesses
 
 pub touches-partly : TouchesArePartly
 touches-partly files node old new amid passes from there = let a = amid from there in passes_weaker (passes from there a.prefix a.suffix a.rest) (λ image m. m.partly) (λ image m. m.partly)

@@ -1,4 +1,4 @@
--- Dirty words that are set, and records that are linked in front.
+-- Dirty flags are set, and records are linked in front of their chains.
 use Rattle.std.proofs.Common.{◌≡◌, ◌⊎◌, inl, inr, ℕ, ◌≤◌, ap, sym, subst, lit≤, refl, Bool, true, false}
 use Rattle.std.specs.Prelude.{◌||◌}
 use Rattle.spec_image.specs.Image.{Image, Index, length_of}
@@ -21,7 +21,7 @@ use Rattle.law_state.proofs.MarkSteps.{marks-done}
 use Rattle.blk_object.specs.KeptMarks.{NodesOfStatesCheck, LinksAreInFront, LinksComeInFront, MarksAreBeingSet, MarksAreSet, NodesCheckAsRecords}
 use Rattle.blk_object.proofs.KeptLists.{told-after}
 
--- ---- dirty words
+-- ---- dirty flags
 
 or-true : (b : Bool) → (b || true) ≡ true
 or-true true = refl

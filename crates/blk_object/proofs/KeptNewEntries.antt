@@ -68,7 +68,7 @@ none-shares (x ∷ xs) y apart =
     (cases_Bool (file_and_block x == y)) in
     rw first (none-shares xs y (λ z among. apart z (or_right (x == z) (is_among xs z) among)))
 
--- ---- seals
+-- ---- checksums
 
 pub new-node_sealed : (new : NewEntry) (moment : ℕ) → node_is_sealed (new_node new moment) ≡ true
 unfolding node_is_sealed new_node

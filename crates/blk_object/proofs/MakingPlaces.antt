@@ -149,7 +149,7 @@ module _ (a d e : Told) (places : Places) (two : ForSome a.files (λ from. Leave
         in-order state layout unlinked None k = k
         in-order state layout unlinked (Some w) k = kept-in-any-order state layout (w ∷ places.node ∷ places.entry ∷ unlinked) (places.node ∷ places.entry ∷ w ∷ unlinked) last k (last-first w places.node places.entry unlinked)
 
-    -- so where they are not apart the folder told nothing
+    -- so where they are not apart the folder was opaque
     pub never-shared : kind_of places.entry ≢ external → (a.files ≡ None → e.files ≡ None) → ForSome a.files (LeavesRoom 3) → (LiesApart places.entry places.long_key → ⊥) → a.files ≡ None
     never-shared kind silent room shared = untold_where a.files (λ from there.
         let r = room from there in

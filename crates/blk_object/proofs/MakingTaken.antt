@@ -47,12 +47,12 @@ use Rattle.blk_object.specs.Making.{LeavesRoom, Takes}
 use Rattle.blk_object.proofs.MakingRoom.{counted-with-room, free-with-room}
 use Rattle.blk_object.proofs.MakingStored.{allocating-index, changed-stored, counters-then, growth-stored, index-counters, made-outside, made-stored, making-counters}
 
--- ---- files that are told
+-- ---- observed files
 
 no-some : {A : Type 0} {x : A} → None ≡ Some x → ⊥
 no-some e = cc
 
--- files that are told in the end were told before
+-- files that are observed in the end were observed before
 pub told-before : (a b : Option Image) (last : Image) → (a ≡ None → b ≡ None) → b ≡ Some last → (first : Image) × (a ≡ Some first)
 told-before None b last silent now = absurd (no-some (sym (silent refl) ∙ now))
 told-before (Some first) b last silent now = (first, refl)

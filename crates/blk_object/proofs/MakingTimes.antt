@@ -48,7 +48,7 @@ module _ (f p : ℕ) where
   stays [] image missed = refl
   stays (step ∷ steps) image missed = stays steps (applied step image) missed.1 ∙ (outside_step step image).bytes (Block f) p missed.0
 
-  -- neither the links of a node nor its seal are at the byte
+  -- neither the links of a node nor its checksum are at the byte
   pub record Misses (w : ℕ) : Type 0 where
     pub kind : kind_of w ≡ rankings
     pub next : (range (Block (file_selector w)) (place w + 16) 4).bytes (Block f) p ≡ false
@@ -109,7 +109,7 @@ node-seal : (w : ℕ) → kind_of w ≡ rankings → seal_place w ≡ 32
 unfolding seal_by_kind
 node-seal w kind = ap seal_by_kind kind
 
--- the times of a node lie beside all links and seals
+-- the times of a node lie beside all links and checksums
 pub times-missed : (node p w : ℕ) → kind_of node ≡ rankings → place node ≤ p → p < place node + 16 → kind_of w ≡ rankings → Misses (file_selector node) p w
 times-missed node p w kind low high also = record { kind = also; next = at 16 (omega arith) (omega arith); prev = at 20 (omega arith) (omega arith); seal = subst (λ (o : ℕ). (range (Block (file_selector w)) (place w + o) 4).bytes (Block (file_selector node)) p ≡ false) (sym (node-seal w also)) (at 32 (omega arith) (omega arith)) } where
   at : (o : ℕ) → 16 ≤ o → o + 4 ≤ 36 → (range (Block (file_selector w)) (place w + o) 4).bytes (Block (file_selector node)) p ≡ false

@@ -1,5 +1,5 @@
--- One item more is taken out, while others of its object may be out already: what holds as its record goes, and in the end, where the seals of what is left
--- hold.
+-- One item more is taken out, while others of its object may be out already: what holds as its record goes, and in the end, where what is left keeps its
+-- checksums.
 use Rattle.std.proofs.Common.{◌≡◌, ℕ, List, ◌∷◌, ◌++◌, refl, ap, sym, ◌∙◌, subst, arith, Bool, true, false, Option, Some, None, Ok, inl, inr, ⊎_elim, append_assoc}
 use Rattle.std.specs.Prelude.{◌&&◌, ◌||◌, ◌==◌, filter, if◌then◌else◌, not}
 use Rattle.std.specs.Option.{option_map_or}
@@ -205,7 +205,7 @@ module _ (state : State) (layout : Layout) (keep : Item → Bool) (chains : ℕ 
   outside : SameOutside (touch_range writes node) from between
   outside = outside_wider (touched_by_writes writes) (touch_range writes node) from between (within_left (touched_by_writes writes) (record_range node)) unlisted.partly.outside
 
-  -- it leaves seals
+  -- checksums stay
   pub between-sealed : (l : Loaded) → AreStanding from l → AreSealed from l → AreSealed between l
   between-sealed l stands s = record {
     node = unlisted.sealed l.node (standing-parts from rankings l.node stands.node).1 s.node;
@@ -260,7 +260,7 @@ module _ (state : State) (layout : Layout) (keep : Item → Bool) (chains : ℕ 
         let kept = here-stays in
         let z : ◌≡◌ {A = Option ℕ} (Some node) None = rw (mine, kept) at none in cc)
 
-    -- seals, that of the item's node and its record's too
+    -- checksums stay, those of the node and of the record of another item
     pub still-sealed : (n : ℕ) (l : Loaded) → layout.at n ≡ Some l → is_among gone n ≡ false → AreSealed image l
     still-sealed n l is kept =
         seals n l is kept (between-sealed l (standing-loaded from layout n l (loads-left n l is kept)) (k.sealed n l is kept))

@@ -185,7 +185,7 @@ are-there files image entry head loaded agrees is with_record =
       third = λ some. there-is files image (a 2) agrees (six.0 some);
     }
 
--- and it checks
+-- and its checksum matches or is absent
 pub loaded-checks : (image : Image) (entry : ℕ) (loaded : Loaded) → AreBytes image → LoadsWith entry loaded image → RecordChecks entry image
 loaded-checks image entry loaded bytes with_record = load-then (store_of image) with_record.rule with_record.node loaded with_record.loads (λ n e f.
     let here : (store_of image).entry entry ≡ Some e = ap (store_of image).entry (sym with_record.contents ∙ f.facts.contents_is) ∙ f.entry in

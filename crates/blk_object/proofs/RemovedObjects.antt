@@ -113,7 +113,7 @@ pub removed-whole : (state after : State) (layout : Layout) (unlinked : List ℕ
 removed-whole state after layout unlinked node entry charge mid image g counted =
     less-counted state after layout (layout_removed layout node entry) unlinked charge mid image g.counters g.less g.kept counted
 
--- ---- what is told
+-- ---- observed files
 
 -- of an observable folder, read without a change, then changed by the call that takes out
 module _ (a r m : Told) (stays : r ≡ a) (state : State) (layout : Layout) (unlinked : List ℕ) (objects : List (Option Object)) (keep : Item → Bool) (item : Item) (node entry : ℕ) (before : Option ℕ) (from : Image) (there : a.files ≡ Some from) (k : Keeps state layout unlinked from) (p : GoesAlone state layout objects keep item node entry before)
@@ -157,6 +157,6 @@ module _ (a m b : Told) (state after : State) (layout : Layout) (unlinked : List
   pub counting-removed : ForSome m.files (λ at. ForSome b.files (AreCountedLess charge at)) → ForSome b.files (IsRemovedWhole after layout unlinked node entry)
   counting-removed counted image is = removed-whole state after layout unlinked node entry charge gone-on.image image (gone gone-on.image gone-on.is) (counted gone-on.image gone-on.is image is)
 
-  -- so it isn't silent in between
+  -- so the folder isn't opaque in between
   pub counting-told : m.files ≡ None → a.files ≡ None
   counting-told none = absurd (some-none (sym gone-on.is ∙ none))

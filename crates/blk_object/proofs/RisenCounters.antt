@@ -98,7 +98,7 @@ rises-counted state after layout now unlinked less more from image counts risen 
       counters = subst (λ (n : ℕ). count_of (byte image Index) ≡ counting n (charged after now)) (sym risen.items) (sum-counted from image (charged after now) w (length state.uses) (charged state layout) counts);
     }
 
--- ---- an item is used in between
+-- ---- an item is accessed in between
 
 pub uses-leave : UsesLeaveTheRise
 uses-leave state after layout now less more item valid listed risen = record {

@@ -98,9 +98,9 @@ bucket-is layout node its was from between loads done = load-then (store_of from
     let here : (store_of between).entry was.contents ≡ Some e = sym (done.partly.shown.store.store.entry was.contents (λ claim has. refl)) ∙ ap (store_of from).entry f.facts.contents_is ∙ f.entry in
     ap (λ (x : RecordFields). bucket_of_hash x.hash) (shown-fields between was.contents e here) ∙ ap bucket_of_hash (eqb-true e.hash (hash was.key) f.facts.keyed.hashed))
 
--- ---- seals
+-- ---- checksums
 
--- an update leaves its record sealed
+-- an update leaves its record with its checksum
 updated-sealed : (from image : Image) (w : ℕ) (changes : List (ℕ × ℕ)) → AreBytes image → kind_of w ≡ blocks_256 → AreChanges (seal_place w) changes → IsUpdated from w changes image → entry_is_sealed (entry_at image w) ≡ true
 unfolding entry_is_sealed entry_body entry_in record_at
 updated-sealed from image w changes bytes kind are done =
@@ -120,7 +120,7 @@ next-changes w next kind = let s = entry-seal w kind in record {
   different = (All-nil (λ (c : ℕ × ℕ). c.0 ≢ 4), tt);
 }
 
--- the record before is sealed again
+-- the record before has its checksum again
 pub again-sealed : (between image : Image) (entry v : ℕ) (fields : RecordFields) → (store_of between).entry v ≡ Some fields → AreBytes image → IsSealedAgain between entry (Some v) image → entry_is_sealed (entry_at image v) ≡ true
 again-sealed between image entry v fields here bytes sealed =
     let kind : kind_of v ≡ blocks_256 = (standing-parts between blocks_256 v (core-standing between v fields here)).1 in
@@ -146,7 +146,7 @@ module _ (state : State) (layout : Layout) (unlinked : List ℕ) (item : Item) (
     stands : StandsBehind (layout.chains (bucket_at between was.contents)) was.contents before lies.prefix lies.suffix
     stands = subst (λ (b : ℕ). StandsBehind (layout.chains b) was.contents before lies.prefix lies.suffix) (sym (bucket-is layout node node was from between loads done)) lies.stands
 
-    -- the record before is that of a listed item, so seals hold where its own does
+    -- the record before is that of a listed item: where it has its checksum, all records of listed items keep theirs
     seals : (image : Image) (o : Option ℕ) → StandsBehind (layout.chains its_bucket) was.contents o lies.prefix lies.suffix → IsUnlinked between was.contents o image → IsSealedAgain between was.contents o image → AreBytes image
         → (other : ℕ) (loaded : Loaded) → layout.at other ≡ Some loaded → AreSealed between loaded → AreSealed image loaded
     seals image None there u sealed bytes other loaded is = table-sealed between image (bucket_at between was.contents) loaded u.keeps.outside

@@ -116,7 +116,7 @@ module _ (state : State) (layout : Layout) (keep : Item → Bool) (chains : ℕ 
         (λ (e : is_among gone q.node ≡ false). e)
         (cases_Bool (is_among gone q.node))
 
-    -- where the record at a node is sealed again, the seals of what is left hold
+    -- where the record at a node has its checksum again, what is left keeps its checksums
     module _ (image : Image) (other : ℕ) (l : Loaded) (at : layout.at other ≡ Some l) (kept : is_among gone other ≡ false) (same : SameOutside (record_range l.contents) between image) (done_again : entry_is_sealed (entry_at image l.contents) ≡ true) where
       abbrev touched : Claim → Bool
       touched = has_claim (claims_of l.contents)
@@ -171,7 +171,7 @@ module _ (state : State) (layout : Layout) (keep : Item → Bool) (chains : ℕ 
         (λ (h : has_claim (claims_of v) c ≡ false). h)
         (cases_Bool (has_claim (claims_of v) c))
 
-    -- so its seals hold
+    -- so it keeps its checksums
     unlinked-sealed : (image : Image) (o : Option ℕ) → StandsBehind (chains its_bucket) was.contents o left.lies.prefix left.lies.suffix → IsUnlinked between was.contents o image
         → (s n : ℕ) (l : Loaded) → load (store_of between) (unchained_rule s) n ≡ Ok l → ((c : Claim) → has_claim (all_claims l) c ≡ true → has_claim (claims_of_all unlinked) c ≡ true) → AreSealed between l → AreSealed image l
     unlinked-sealed image None there u s n l loads_so among_so sealed = table-sealed between image (bucket_at between was.contents) l u.keeps.outside sealed

@@ -85,7 +85,7 @@ module _ (files : BlockFiles) (node entry : ℕ) (before : Option ℕ) (a m b : 
       unlinking : (image : Image) → IsYetLinked on.image entry before image ⊎ IsUnlinked on.image entry before image → IsGoingOut node entry before from image
       unlinking image moment = inr (record { between = on.image; unlisted = done; moment = moment })
 
-  -- the record before it checks then, where there is one
+  -- the checksum of the record before it matches or is absent then, where there is one
   pub before-good : ForSome m.files (BeforeChecks before)
   before-good between is = subst (BeforeChecks before) (some_inj (sym on.is ∙ is)) (may.chained on.image (bytes_between on.image on.is) done).1
 

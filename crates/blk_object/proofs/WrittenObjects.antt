@@ -35,7 +35,7 @@ use Rattle.spec_folder.specs.Tidy.{doomed_nodes}
 use Rattle.law_folder.proofs.states.Laid.{is_among-node}
 use Rattle.blk_object.proofs.FoundLeft.{among-map}
 
--- ---- the object's row and its mark
+-- ---- the object's row and its dirty flag
 
 pub record IsRowOf (object : Object) (was : Loaded) : Type 0 where
   pub row : row_of_loaded was ≡ main_row object.key object.shape object.streams

@@ -24,11 +24,11 @@ use Rattle.blk_stream.proofs.Naming.{apart_place}
 use Rattle.blk_stream.proofs.StreamPlaces.{address_at, size_at, streams_parts}
 use Rattle.blk_object.proofs.WrittenRoles.{IsStreamChange}
 
--- but for the words of a stream and the seal, the blocks of a record have the same bytes
+-- but for the words of a stream and the checksum, the blocks of a record have the same bytes
 abbrev pub SameRecordBut : (entry i : ℕ) → Image → Image → Type 0
 SameRecordBut entry i from image = (k : ℕ) → place entry ≤ k → k < place entry + byte_size entry → (stream_words entry i).bytes (Block (file_selector entry)) k ≡ false → byte image (Block (file_selector entry)) k ≡ byte from (Block (file_selector entry)) k
 
--- a record that checks in its bytes is shown to check
+-- where the bytes of a record have a matching checksum or none, so has the record as it is read
 pub shown-checks : (image : Image) (w : ℕ) → AreBytes image → kind_of w ≡ blocks_256 → RecordChecks w image → entry_checks (entry_at image w) ≡ true
 unfolding entry_in record_at
 shown-checks image w bytes kind good =

@@ -63,7 +63,7 @@ clash e = cc
 nothing-at : (w : ℕ) (entry i : ℕ) (from image : Image) → SameOutside (stream_words entry i) from image → SameOutside (either (stream_words entry i) (data_at_place w)) from image
 nothing-at w entry i from image same = outside_wider (stream_words entry i) (either (stream_words entry i) (data_at_place w)) from image (within_left (stream_words entry i) (data_at_place w)) same
 
--- what is shown to check where it is sealed
+-- an entry record with its checksum is one whose checksum matches or is absent
 sealed-checks : (e : Entry) → entry_is_sealed e ≡ true → entry_checks e ≡ true
 unfolding entry_checks
 sealed-checks e sealed = or_right (e.self_hash == 0) (entry_is_sealed e) sealed

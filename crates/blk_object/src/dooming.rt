@@ -29,7 +29,7 @@ const DOOMED: u32 = 2;
 /// Sets the doomed state in the record of an object that a handle names, all of whose items are out of list and chains, in one update with a new checksum: one
 /// folder call reads the record, and three write.
 ///
-/// A failed check is a record that has too few bytes or doesn't check, and nothing is written then.
+/// A failed check is a record that has too few bytes or a wrong checksum, and nothing is written then.
 pub fn doom_record<F: Folder>(folder: &mut F, files: &BlockFiles, entry: Addr) -> Result<(), Fault>
     requires kind { kind_of entry ≡ blocks_256 }
     requires stands { IsTrue (stands_among files.now entry) }

@@ -18,7 +18,7 @@ use blk_disk::BlockFiles;
 use blk_handles::OpenObject;
 use blk_io::{Fault, Folder};
 
-/// Ends an object that no handle names any more: all that a doomed one has is freed, and of another the dirty word becomes 0.
+/// Ends an object that no handle names any more: all that a doomed one has is freed, and of another the dirty flag becomes 0.
 ///
 /// Of a doomed one a folder call reads its places, and each of at most six places takes seven at most. Of another that
 /// was changed one call reads its node, and two make the word 0; of one that wasn't nothing is read or written.

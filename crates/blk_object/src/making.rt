@@ -41,7 +41,7 @@ pub struct Made {
 
 /// Makes a new object without streams, with a key that no other has.
 ///
-/// Its places are taken first, and its entry is written there, with the number of the session as its mark. Then its
+/// Its places are taken first, and its entry is written there, with the number of the session as its dirty flag. Then its
 /// node comes in front of the LRU list, its record in front of its chain, and the index counts it. A failed check is
 /// one that the calls below find, an index that hasn't its length, or blocks that were given twice. A key that lies in
 /// its record takes at most 71 folder calls where no file grows.
@@ -59,7 +59,7 @@ pub fn make_entry<F: Folder>(
     // Each state that was kept, that can have the object, in a session of this number, is kept with it in the end.
     ensures made { IfOk result (λ made. ForSome (F.told folder.old).files (λ from. this_id_of (byte from index) ≡ mark → ForSome (F.told folder.new).files (HasNewObjects key.now made from))) }
 
-    // It was made, used and changed at the moment.
+    // The object was made, accessed and changed at the moment.
     ensures times { IfOk result (λ made. ForSome (F.told folder.new).files (HasTimes made.entry made.node moment)) }
 
     // At each word the old durable contents are recovered: the new object is dirty, and so it isn't durable.

@@ -35,7 +35,7 @@ pub struct Owned {
 
 /// Reads which places an entry has, and its flags, by its record: one folder call.
 ///
-/// A failed check is a read that gave too few bytes, a record that doesn't check, or a word of it that is neither 0 nor
+/// A failed check is a read that gave too few bytes, a record with a wrong checksum, or a word of it that is neither 0 nor
 /// an address which is there.
 pub fn read_owned<F: Folder>(
     folder: &mut F,

@@ -29,7 +29,7 @@ use blk_stream::write;
 /// before them where it ends there; it ends with them where it is cut, and else keeps what comes after them.
 ///
 /// Where the storage of the new length is that of the old one, they are written in its place, and then the record gets
-/// the length. Else a new place is filled, then the record gets its address and the length by one sealed update, and
+/// the length. Else a new place is filled, then the record gets its address and the length by one update under a checksum 0, and
 /// then the old place is freed. The counters of the index stay. Beside the calls of `write`, one reads the record, and
 /// two the lengths of files.
 ///

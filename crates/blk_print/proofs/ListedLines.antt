@@ -78,7 +78,7 @@ list-begun state layout image k next failed old h = record {
   printed = none-printed failed old;
 }
 
--- the front of the lines is printed
+-- a prefix of the lines is printed
 pub listed-part : (state : State) (layout : Layout) (next : Option ℕ) (turn : ℕ) (before failed : Bool) (old mid new : Option (List ℕ)) → IsListedTo state layout next turn before failed old mid → new ≡ mid → PrintsInPart before old new (flat_map row_line (rows state))
 listed-part state layout next turn before failed old mid new w same =
     subst (PrintsInPart before old new) (sym (both-lines state w.passed w.left) ∙ ap (lines_of state) (sym w.split) ∙ all-lines state)

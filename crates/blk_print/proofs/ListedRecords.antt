@@ -1,4 +1,4 @@
--- What the record of a listed item tells of it.
+-- What the record of a listed item says of it.
 use Rattle.std.proofs.Common.{◌≡◌, ℕ, zero, suc, ◌<◌, ◌≤◌, List, length, take, Some, sym, ap, ◌∙◌, arith}
 use Rattle.std.specs.Prelude.{slice_index}
 use Rattle.spec_image.specs.Image.{Image}

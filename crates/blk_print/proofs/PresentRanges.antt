@@ -183,7 +183,7 @@ module _ (range : PresentRange) (image : Image) (p : HasPresent range image) whe
   pub main-parent : LoadsAsParent range.entry image
   main-parent = record { loaded = p.parent.was; loads = main-loads; index = p.parent.index; role = p.parent.role }
 
-  -- by the signature that is read
+  -- by the generation that is read
   pub signed : (s : ℕ) → ((loaded : Loaded) (index : ParentIndex) → LoadsWith range.entry loaded image → loaded.role ≡ IsParent index → index.signature ≡ s) → KeepsParent p.state p.layout p.unlinked p.number p.object range.node range.entry s image
   signed s reads = record {
     kept = p.parent.kept;

@@ -125,7 +125,7 @@ module _ (files : BlockFiles) (range : StreamRange) (image : Image) (p : HasByte
   line-is : reply_text (gave p.bytes) ≡ (codes "data " ++ (number_text range.count ++ codes " ")) ++ (data_text p.bytes ++ 10 ∷ [])
   line-is = data-line p.bytes ∙ ap (λ (n : ℕ). (codes "data " ++ (number_text n ++ codes " ")) ++ (data_text p.bytes ++ 10 ∷ [])) p.long
 
-  -- the front, the data and the end
+  -- the start, the data and the end
   pub line-printed : (f0 f1 f2 f3 : Bool) (w0 w1 w2 w3 : Option (List ℕ)) → PrintsUnlessFailed f0 f1 w0 w1 (codes "data " ++ (number_text range.count ++ codes " ")) → PrintsUnlessFailed f1 f2 w1 w2 (data_text p.bytes) → PrintsUnlessFailed f2 f3 w2 w3 (10 ∷ []) → PrintsUnlessFailed f0 f3 w0 w3 (reply_text (gave p.bytes))
   line-printed f0 f1 f2 f3 w0 w1 w2 w3 front middle last =
       subst (PrintsUnlessFailed f0 f3 w0 w3) (sym line-is)

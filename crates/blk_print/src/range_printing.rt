@@ -220,7 +220,7 @@ fn print_through<F: Folder, K: Sink>(
     Ok(())
 }
 
-// Prints the front of a line of data, unless the sink failed before: the word, the number of bytes, and a space after
+// Prints the start of a line of data, unless the output failed before: the word, the number of bytes, and a space after
 // each.
 fn say_front<K: Sink>(out: &mut K, failed: &mut bool, number: u64)
     ensures prints { PrintsUnlessFailed failed.old failed.new (K.written out.old) (K.written out.new) (codes "data " ++ (number_text number ++ codes " ")) }
@@ -232,7 +232,7 @@ fn say_front<K: Sink>(out: &mut K, failed: &mut bool, number: u64)
     say_text(out, failed, b" ");
 }
 
-// Prints a number in decimal, unless the sink failed before.
+// Prints a number in decimal, unless the output failed before.
 fn say_digits<K: Sink>(out: &mut K, failed: &mut bool, number: u64)
     ensures prints { PrintsUnlessFailed failed.old failed.new (K.written out.old) (K.written out.new) (number_text number) }
     ensures failed { FailsWhereItRose failed.old failed.new (K.faults out.old) (K.faults out.new) }
@@ -244,7 +244,7 @@ fn say_digits<K: Sink>(out: &mut K, failed: &mut bool, number: u64)
     *failed = print_number(out, number).is_err();
 }
 
-// Prints two hexadecimal digits for each byte, unless the sink failed before.
+// Prints two hexadecimal digits for each byte, unless the output failed before.
 fn say_bytes<K: Sink>(out: &mut K, failed: &mut bool, bytes: &[u8])
     ensures prints { PrintsUnlessFailed failed.old failed.new (K.written out.old) (K.written out.new) (encode_lower bytes.now) }
     ensures failed { FailsWhereItRose failed.old failed.new (K.faults out.old) (K.faults out.new) }
@@ -256,7 +256,7 @@ fn say_bytes<K: Sink>(out: &mut K, failed: &mut bool, bytes: &[u8])
     *failed = print_bytes(out, bytes).is_err();
 }
 
-// Prints a text, unless the sink failed before.
+// Prints a text, unless the output failed before.
 fn say_text<K: Sink>(out: &mut K, failed: &mut bool, text: &[u8])
     ensures prints { PrintsUnlessFailed failed.old failed.new (K.written out.old) (K.written out.new) text.now }
     ensures failed { FailsWhereItRose failed.old failed.new (K.faults out.old) (K.faults out.new) }

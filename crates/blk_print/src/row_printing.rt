@@ -8,7 +8,7 @@ use blk_evict::say;
 use blk_io::Sink;
 use blk_script::Field::{Key, Number, Word};
 
-/// Prints the row of an object without an index, unless the sink failed before: its key and the lengths of its streams.
+/// Prints the row of an object without an index, unless the output failed before: its key and the lengths of its streams.
 pub(crate) fn say_plain<K: Sink>(
     out: &mut K,
     failed: &mut bool,
@@ -34,7 +34,7 @@ pub(crate) fn say_plain<K: Sink>(
     );
 }
 
-/// Prints the row of an object with an index of parts, unless the sink failed before: its key and the length of stream 0.
+/// Prints the row of an object with an index of parts, unless the output failed before: its key and the length of stream 0.
 pub(crate) fn say_sparse<K: Sink>(out: &mut K, failed: &mut bool, key: &[u8], first: u64)
     ensures prints { PrintsUnlessFailed failed.old failed.new (K.written out.old) (K.written out.new) (line (codes "sparse" ∷ key_text key.now ∷ number_text first ∷ [])) }
     ensures failed { FailsWhereItRose failed.old failed.new (K.faults out.old) (K.faults out.new) }
@@ -43,7 +43,7 @@ pub(crate) fn say_sparse<K: Sink>(out: &mut K, failed: &mut bool, key: &[u8], fi
     say(out, failed, &[Word("sparse"), Key(key), Number(first)]);
 }
 
-/// Prints the row of a part, unless the sink failed before: the key of its object, its number, and how many bytes it has.
+/// Prints the row of a part, unless the output failed before: the key of its object, its number, and how many bytes it has.
 pub(crate) fn say_part<K: Sink>(out: &mut K, failed: &mut bool, key: &[u8], number: u64, size: u64)
     ensures prints { PrintsUnlessFailed failed.old failed.new (K.written out.old) (K.written out.new) (line (codes "part" ∷ key_text key.now ∷ number_text number ∷ number_text size ∷ [])) }
     ensures failed { FailsWhereItRose failed.old failed.new (K.faults out.old) (K.faults out.new) }

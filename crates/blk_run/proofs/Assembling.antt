@@ -138,7 +138,7 @@ turns_first texts more all opened clock same =
       ap (λ (l : List (List ℕ)). turns (session_script 1 l) opened clock) same ∙ (more_turns 1 texts more opened clock).all,
     )
 
--- A session on files that are told, with the readings.
+-- A session on observed files, with the readings.
 
 module _ (from : Image) (limits : Bounds) (readings : Readings) (old : Outside) (there : old.folder.files ≡ Some from) (clock : old.clock ≡ Some readings) where
   abbrev pub opened : State
@@ -216,7 +216,7 @@ module _ (from : Image) (limits : Bounds) (readings : Readings) (old : Outside) 
         (sym (commands_are opened (later_of readings) all made ends.commands same (ends.are (clock_after (later_of readings) (readings_of made)) (clock_made made clock_mid read))))
         ends.closes)
 
-    -- behind all iterations of a run, whose texts were printed
+    -- after all iterations of a run, whose texts were printed
     stops_printed : (all : List Turn) (sink : Type 0) (new : Outside) → new.written ≡ option_map (λ (w : List ℕ). w ++ text_of all) old.written → StopsPast from opened (commands (run_with all)) (length (commands_of all)) old.folder new.folder
         → StopsByNotes from (run_with all) sink old new
     stops_printed all sink new printed past = record {
@@ -225,7 +225,7 @@ module _ (from : Image) (limits : Bounds) (readings : Readings) (old : Outside) 
       no_less = λ level. inr printed;
     }
 
-    -- and behind those up to one whose text was printed in part, where the sink failed
+    -- and after those up to one whose text was printed in part, where the output failed
     stops_unprinted : (all : List Turn) (sink : Type 0) (new : Outside) → sink → Appends old.written new.written (text_of all) → StopsPast from opened (commands (run_with all)) (length (commands_of all)) old.folder new.folder
         → StopsByNotes from (run_with all) sink old new
     stops_unprinted all sink new rose printed past = record {
@@ -408,7 +408,7 @@ module _ (from : Image) (limits : Bounds) (readings : Readings) (old : Outside) 
             };
           }
 
-      -- the sink failed in the lines
+      -- the output failed in the lines
       module _ (plays : PlaysInput (Err step_fault.Sink) budget (Some input) new.left begun_far keeps notes spare start mid) where
         abbrev sink_made : List Turn
         sink_made = plays.part.made
@@ -551,7 +551,7 @@ module _ (from : Image) (limits : Bounds) (readings : Readings) (old : Outside) 
             };
           }
 
-      -- the sink failed in it
+      -- the output failed in it
       module _ {A : Type 0} (plays : PlaysPart {A = A} (Err step_fault.Sink) part begun_far keeps notes spare fixed_start mid) where
         abbrev pub fixed_to : AreMadeTo plays.made begun_far keeps notes spare fixed_start mid
         fixed_to = plays.plays

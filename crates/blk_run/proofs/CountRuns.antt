@@ -49,7 +49,7 @@ free_closes cache far left told clock free at =
     all_closed cache.handles (KeepsState cache) (λ state image k. k.holds.kept.entries.valid) (λ state image k. names_bound cache state image k) far cache.notes left told clock clock (free_none cache.handles free)
     (none_so_far far (KeepsState cache) cache.notes left told clock (λ state image k. k.holds.kept.entries.valid) at)
 
--- where only the sink failed the folder is closed
+-- where only the output failed the folder is closed
 only_closes : (r : Result (Unit {0}) StepFault) → IsOnlySink r → closes_script r ≡ true
 only_closes (Ok done) only = refl
 only_closes (Err fault.Sink) only = refl

@@ -36,7 +36,7 @@ none_printed line old = record { front = []; rest = line; split = refl; written 
     same None = refl
     same (Some w) = ap Some (sym (append-nil w))
 
--- the totals of the files that are told, and any where none are
+-- the totals of the observed files, and any totals of an opaque folder
 pub told_totals : (s : Status) (limits : Bounds) (files : Option Image) (old new : Option (List ℕ)) → ((line : List ℕ) → PrintsCountAt s line old new) → ShowsTotals s limits files old new
 told_totals s limits None old new printed = record { item_count = 0; byte_count = 0; totals = λ image there. absurd (no_image there); printed = printed (totals_line 0 0) }
   where
@@ -49,14 +49,14 @@ told_totals s limits (Some from) old new printed = record {
   printed = printed _;
 }
 
--- the files that are told are told still
+-- a folder that was observable still is
 pub told_still : {a b : Told} {P Q : Image → Type 0} (from : Image) → PassesAnyTo a b P Q → a.files ≡ Some from → (image : Image) × (b.files ≡ Some image)
 told_still {a} {b} {P} {Q} from passes there = (after passes.steps from, passes.applies.files ∙ ap (option_map (after passes.steps)) there)
 
 still_then : (a b c : Image) → HoldsStill a b → HoldsStill b c → HoldsStill a c
 still_then a b c one other = record { usable = λ h. other.usable (one.usable h); formed = λ h. other.formed (one.formed h); found_same = other.found_same ∙ one.found_same }
 
--- a folder on which a cache keeps a state may be written; one that tells nothing asks nothing
+-- a folder on which a cache keeps a state may be written; of an opaque folder nothing is asked
 pub opened_open : (limits : Bounds) (start middle : Told) (cache : Cache) → (start.files ≡ None → middle.files ≡ None) → ForSome start.files (λ from. ForSome middle.files (KeepsState cache (opened_on limits from))) → ForSome middle.files (IsOpen cache.files)
 opened_open limits start middle cache silent keeps = by_files start.files silent keeps
   where

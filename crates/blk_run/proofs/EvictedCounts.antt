@@ -27,7 +27,7 @@ use Rattle.blk_cache.proofs.WriteRoom.{items-same}
 use Rattle.blk_gen.specs.Counting.{bytes_read, evicted_items}
 use Rattle.blk_run.specs.Generating.{IsGeneratedRequest, evicted_by, longest_read}
 
--- The groups that go.
+-- The eviction units that go.
 
 -- the last item that need not stay, with those in front of it and those after it, which stay
 record Last (stays : Item → Bool) (uses : List Item) : Type 0 where
@@ -50,12 +50,12 @@ last_of stays (first ∷ uses) = by_rest (last_of stays uses)
     by_rest (inl all) = by_first all (cases_Bool (stays first))
     by_rest (inr last) = inr (record { front = first ∷ last.front; item = last.item; behind = last.behind; listed = ap (λ (l : List Item). first ∷ l) last.listed; unpinned = last.unpinned; pinned_behind = last.pinned_behind })
 
--- a group has an item
+-- an eviction unit has an item
 some_items : (item : Item) (front : List Item) → 1 ≤ length (items_of_group (group_for item front))
 some_items (main key) front = omega arith
 some_items (part key n) front = omega arith
 
--- without some groups there are fewer items, by those of the groups
+-- without some eviction units there are fewer items, by those of the eviction units
 abbrev IsFewer : State → List Group → Type 0
 IsFewer state groups = items state ≡ items (without groups state) + count_of_groups groups
 
@@ -109,7 +109,7 @@ unfolding without
 names_left [] state = refl
 names_left (group ∷ groups) state = refl
 
--- what a command evicted is told by the numbers of items
+-- the numbers of items before and after a command say what it evicted
 abbrev IsTold : Request → State → Outcome → Type 0
 IsTold request state made = (evicted_items made ≡ evicted_by request (answer_of made.reply) (items state) (items made.state)) × (evicted_items made ≤ items state)
 

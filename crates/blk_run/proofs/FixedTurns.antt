@@ -52,7 +52,7 @@ plays_only fault.Sink far first second old new keeps notes left plays = made_to_
 plays_only fault.Device far first second old new keeps notes left plays = stopped_only far first second old new keeps notes left plays
 plays_only (fault.Damaged damage) far first second old new keeps notes left plays = plays
 
--- what would follow, where the clock is told
+-- what would follow, where the clock is observable
 follow : (Readings → List Turn) → Option Readings → List Turn
 follow f None = []
 follow f (Some r) = f r

@@ -44,7 +44,7 @@ sink_until (Err fault.Sink) a b c more rose = rises_until a b c more rose
 sink_until (Err fault.Device) a b c more rose = tt
 sink_until (Err (fault.Damaged damage)) a b c more rose = tt
 
--- where the sink failed, before or in the flush, its count rose
+-- where the output failed, before or in the flush, its count rose
 pub sink_flushed : (before after : Result Answer StepFault) (a b c : ℕ) → a ≤ b → b ≤ c → IsFlushed before after fault.Sink (Rises b c) → IfSink before (Rises a b) → IfSink after (Rises a c)
 sink_flushed before after a b c less more (inl same) rose = subst (λ (r : Result Answer StepFault). IfSink r (Rises a c)) (sym same) (sink_until before a b c more rose)
 sink_flushed before after a b c less more (inr how) rose = subst (λ (r : Result Answer StepFault). IfSink r (Rises a c)) (sym how.1.0) (rises_since a b c less how.1.1)
@@ -124,7 +124,7 @@ inspect_sink_until (Err inspect_fault.Device) a b c more rose = tt
 inspect_sink_until (Err (inspect_fault.Damaged damage)) a b c more rose = tt
 inspect_sink_until (Err inspect_fault.Memory) a b c more rose = tt
 
--- where the sink failed, before or in the flush, its count rose
+-- where the output failed, before or in the flush, its count rose
 pub inspect_sink_flushed : (before after : Result (Unit {0}) InspectFault) (a b c : ℕ) → a ≤ b → b ≤ c → IsFlushed before after inspect_fault.Sink (Rises b c) → IfInspectSink before (Rises a b) → IfInspectSink after (Rises a c)
 inspect_sink_flushed before after a b c less more (inl same) rose = subst (λ (r : Result (Unit {0}) InspectFault). IfInspectSink r (Rises a c)) (sym same) (inspect_sink_until before a b c more rose)
 inspect_sink_flushed before after a b c less more (inr how) rose = subst (λ (r : Result (Unit {0}) InspectFault). IfInspectSink r (Rises a c)) (sym how.1.0) (rises_since a b c less how.1.1)

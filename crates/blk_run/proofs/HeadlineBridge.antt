@@ -77,7 +77,7 @@ failed_by_start from limits old new there (inr opens) = inr (opened_by_start fro
 
 -- What is kept.
 
--- what keeps a state stands for it
+-- a folder on which a cache keeps a state represents it
 pub cache_stands : (cache : Cache) (state : State) (image : Image) → KeepsState cache state image → StandsFor image state
 cache_stands cache state image kept = kept-stands state kept.holds.layout image kept.holds.kept kept.finished
 

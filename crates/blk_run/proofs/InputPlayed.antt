@@ -70,7 +70,7 @@ module _ (budget left : ℕ) (input_old input : Option (List ℕ)) (line : Line)
   abbrev before : List ℕ
   before = (cut so_far.taken).rest
 
-  -- the source failed
+  -- the input failed
   pub input_failed : (input_new : Option (List ℕ)) → input_new ≡ input → (far : SoFar) (spare : ℕ) → StandsAt far keeps_old notes_old (spare + (budget + 1)) old.folder → PlaysInput (Ok end.Failed) budget input_old input_new far keeps notes spare old mid
   input_failed input_new same far spare at = record {
     taken = so_far.taken;

@@ -164,7 +164,7 @@ part_then {A} {B} result a far whole one more old mid new keeps_mid keeps notes_
       plays = plays_then result far before.made next.made old mid new keeps_mid keeps notes_mid notes left_mid left first next.plays;
     }
 
--- what a part would go on with, where the clock is told
+-- what a part would go on with, where the clock is observable
 rest_of : (Readings → List Turn) → Option Readings → List Turn
 rest_of f None = []
 rest_of f (Some r) = f r

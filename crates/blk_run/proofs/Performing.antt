@@ -22,7 +22,7 @@ use Rattle.blk_script.specs.declared.fault.LineFault.{LineFault}
 use Rattle.blk_run.specs.WholeInputs.{IsWholeInBuffer, longest_input}
 use Rattle.blk_run.specs.Work.{Performs, ReadsOnDamage, no_input, whole_input, DoesWork, Work, budget, folder_text, input_by}
 
--- a cause, where the source can't have failed and nothing is too long
+-- a cause, where the input can't have failed and nothing is too long
 pub cause_wider : (s : Status) (damaged device source sink long : Type 0) → CauseOf s damaged device ⊥ sink ⊥ → CauseOf s damaged device source sink long
 cause_wider status.Ok damaged device source sink long cause = tt
 cause_wider status.Refused damaged device source sink long cause = tt
@@ -118,7 +118,7 @@ module _ (result : Status) (limits : Bounds) (device source : Type 0) (before no
     memory = runs.memory;
   })
 
-  -- a call that has no source
+  -- a call that has no input
   pub performs_wider : (script : Script) → Performs (no_input script) result limits device ⊥ before now old new → Performs (no_input script) result limits device source before now old new
   performs_wider script does = record {
     plays = does.plays;
@@ -208,16 +208,16 @@ long_put script limits device source before now old new clock past given nothing
     too_many : (n : ℕ) → n ≤ longest_input → longest_input < n → ⊥
     too_many n few many = absurd (omega (arith, few, many))
 
--- Where clock and input tell.
+-- Where clock and input are observable.
 
--- the contract of the work with the readings and the bytes that are told
+-- the contract of the work with the observed readings and bytes
 abbrev pub DoesToldWork : Work → Status → Bounds → Image → Readings → List ℕ → (source sink : Type 0) → Outside → Outside → Type 0
 DoesToldWork (input_by protocol) result limits from readings input source sink old new = Session protocol result limits budget from readings input source sink old new
 DoesToldWork (whole_input script) result limits from readings input source sink old new = Put result script limits from readings input sink old new
 DoesToldWork (no_input script) result limits from readings input source sink old new = FixedScript result script limits from readings sink old new
 DoesToldWork (folder_text text) result limits from readings input source sink old new = ShowsText result (text from) old new
 
--- where clock and input tell the readings and the bytes to come, the work is the run of these
+-- where clock and input are observable, the work is the run of the readings and the bytes to come
 pub work_of_told : (work : Work) (result : Status) (limits : Bounds) (from : Image) (source sink : Type 0) (old new : Outside) → DoesWork work result limits from source sink old new
     → (readings : Readings) → old.clock ≡ Some readings → (input : List ℕ) → old.left ≡ Some input → DoesToldWork work result limits from readings input source sink old new
 work_of_told (input_by protocol) result limits from source sink old new does readings clock input left =

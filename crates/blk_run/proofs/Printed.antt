@@ -61,7 +61,7 @@ pub pieces_split : {X : Type 0} (f : X → List ℕ) (xs : List X) (i : ℕ) (d 
 pieces_split f xs i d within =
     ap (flat_map f) (sym (take-append-drop (i + 1) xs)) ∙ flat_map-append f (take (i + 1) xs) (drop (i + 1) xs) ∙ ap (λ (l : List ℕ). l ++ flat_map f (drop (i + 1) xs)) (one_more f xs i d within)
 
--- a text that was printed, or a part of it where the sink failed
+-- a text that was printed, or a part of it where the output failed
 pub prints : {A E : Type 0} (r : Result A E) (text : List ℕ) (w0 w1 : Option (List ℕ)) (before now : ℕ) → OnOk r (w1 ≡ option_map (λ (w : List ℕ). w ++ text) w0) → Appends w0 w1 text → OnErr r (Rises before now) → Prints w0 w1 before now text
 prints (Ok a) text w0 w1 before now whole part failed = record { front = part; whole = λ level. whole }
 prints (Err e) text w0 w1 before now whole part failed = record { front = part; whole = λ level. absurd (level failed) }

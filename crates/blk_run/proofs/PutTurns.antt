@@ -178,7 +178,7 @@ module _ (key : List ℕ) (stream : ℕ) (bytes : List ℕ) (far : SoFar) (keeps
           }
       by_fault (fault.Damaged damage) p none = absurd p
 
--- a failed sink that was handed on
+-- a failed output that was handed on
 pub sink_is : (q : Result (Unit {0}) StepFault) (why : StepFault) → IsErrAnd q (λ (x : StepFault). x ≡ why) → IsOnlySink {A = Unit {0}} (Err why) → q ≡ Err fault.Sink
 sink_is q fault.Sink is only = fault_is q fault.Sink is
 sink_is q fault.Device is only = absurd only

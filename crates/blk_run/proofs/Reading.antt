@@ -53,7 +53,7 @@ reads_once {old} {new} {P} value reading later all = by old reading later
       reads = λ after fits. (r, (refl, all r after read (ap Some (told r after new next fits))));
     }
 
--- where what is to come was told at first it is what was given: then P holds of what is told
+-- where what is to come was observable at first it is what was given: then P holds of what is observed
 pub reads_told : {A : Type 0} {old new : Option A} (P : A → Option A → Option A → Type 0) → ReadsAs old new (λ before after. P before (Some before) (Some after)) → (here : A) → old ≡ Some here → P here old new
 reads_told {A} {old} {new} P reads here is = by new refl
   where
@@ -137,7 +137,7 @@ takes_then one two all =
     let early = one.reads two.before two.was in
     record { tells = λ none. one.tells (two.tells none); before = early.0; after = two.after; was = early.1.0; is = two.is; holds = all early.0 two.before two.after early.1.1 two.holds }
 
--- where the input told its bytes at first these are those that came: then P holds of what is told
+-- where the input was observable at first its bytes are those that came: then P holds of the observed bytes
 pub takes_told : {A : Type 0} {old new : Option A} (P : A → Option A → Option A → Type 0) → TakesAs old new (λ before after. P before (Some before) (Some after)) → (here : A) → old ≡ Some here → P here old new
 takes_told {A} {old} {new} P takes here is = by new refl
   where
@@ -160,7 +160,7 @@ TookFront n piece before after = ForSome (Some before) (λ l. (n ≤ length l) �
 pub for_some : {A : Type 0} (P : A → Type 0) (here : A) → P here → ForSome (Some here) P
 for_some {A} P here holds other same = subst P (some_same same) holds
 
--- whatever is left behind them
+-- whatever is left after them
 pub took_front : {old new : Option (List ℕ)} (n : ℕ) (piece : List ℕ) → n ≤ length piece → ForSome old (λ l. (n ≤ length l) × (take n piece ≡ take n l)) → new ≡ option_map (drop n) old → ReadsAs old new (TookFront n piece)
 took_front {old} {new} n piece few took later = by old took later
   where
@@ -204,6 +204,6 @@ took_none {old} {new} n zero none later = by old none later
       holds = (empty l refl, told l (empty l refl));
     }
 
--- no more than so many bytes were taken of an input that tells them
+-- no more than so many bytes were taken of an observable input
 pub told_taken : (most : ℕ) {old new : Option (List ℕ)} {P : List ℕ → List ℕ → Type 0} → TakesAs old new (λ before after. IsTakenUpTo most (Some after) before × P before after) → ForSome old (IsTakenUpTo most new)
 told_taken most takes bytes there = takes_told (λ before o n. IsTakenUpTo most n before) (takes_map takes (λ before after both. both.0)) bytes there

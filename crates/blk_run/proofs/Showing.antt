@@ -111,7 +111,7 @@ module _ (text : Image → List ℕ) (limits : Bounds) (device : Type 0) (before
   shown_performs r s is printed answer unprinted cause_is device_is sink_is behind =
       subst (λ (x : Status). Performs (folder_text text) x limits device ⊥ before now old new) (sym is) (shown_at r printed answer unprinted cause_is device_is sink_is behind)
 
--- a call that has no source
+-- a call that has no input
 pub text_wider : (text : Image → List ℕ) (result : Status) (limits : Bounds) (device source : Type 0) (before now : ℕ) (old new : Outside) → Performs (folder_text text) result limits device ⊥ before now old new → Performs (folder_text text) result limits device source before now old new
 text_wider text result limits device source before now old new does = record {
   plays = does.plays;

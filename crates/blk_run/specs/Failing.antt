@@ -30,7 +30,7 @@ pub record IsFailedInOpening (start final : Told) (old new : Option (List ℕ)) 
   pub first : ForSome start.files (IsDamagedBy (damage_of damage))
   pub printed : Prints old new before now (damage_line (damage_of damage))
 
--- the folder is opaque, and a check failed in a command after the opening; which one can't be told from outside, so of an opaque folder this may always hold
+-- the folder is opaque, and a check failed in a command after the opening; which one can't be seen from outside, so of an opaque folder this may always hold
 pub record IsFailedBehind (start final : Told) : Type 0 where
   pub untold : start.files ≡ None
   pub fails : IsFailedSomewhere final

@@ -51,7 +51,7 @@ pub record Around : Type 0 where
   pub clock : Option Readings
   pub refused : Bool
 
--- what is told around a player, from its four parts
+-- what is observable around a player, from its four parts
 abbrev pub around : Told → (written : Option (List ℕ)) → Option Readings → (refused : Bool) → Around
 around folder written clock refused = record { folder = folder; written = written; clock = clock; refused = refused }
 

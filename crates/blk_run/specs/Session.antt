@@ -30,15 +30,15 @@ pub record Outside : Type 0 where
   pub left : Option (List ℕ)
   pub clock : Option Readings
 
--- these are told
+-- what is observable outside, from its four parts
 abbrev pub outside : Told → (written left : Option (List ℕ)) → Option Readings → Outside
 outside folder written left clock = record { folder = folder; written = written; left = left; clock = clock }
 
--- what is told outside, with the readings that the clock gives from here on
+-- what is observable outside, with the readings that the clock gives from here on
 abbrev pub with_readings : Outside → Readings → Outside
 with_readings told readings = record { folder = told.folder; written = told.written; left = told.left; clock = Some readings }
 
--- what is told outside, with the readings and the bytes that clock and input give from here on
+-- what is observable outside, with the readings and the bytes that clock and input give from here on
 abbrev pub with_given : Outside → Readings → List ℕ → Outside
 with_given told readings input = record { folder = told.folder; written = told.written; left = Some input; clock = Some readings }
 

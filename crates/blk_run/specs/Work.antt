@@ -49,8 +49,8 @@ work_of (do_inspect part) = folder_text (inspect_text part)
 work_of do_verify = folder_text verify_text
 work_of (do_generate seed turns) = no_input (gen_script seed turns)
 
--- the contract of the work by its status, for an image that is uninitialized or well formed, whether clock and input tell anything or not: there are readings and
--- bytes, those that the calls gave, which are the told ones where these are told. Showing a text needs neither
+-- the contract of the work by its status, for an image that is uninitialized or well formed, whether clock and input are observable or not: there are readings
+-- and bytes, those that the calls gave, which are the observed ones where there are such. Showing a text needs neither
 abbrev pub DoesWork : Work → Status → Bounds → Image → (source sink : Type 0) → Outside → Outside → Type 0
 DoesWork (input_by protocol) result limits from source sink old new = ReadsAs old.clock new.clock (λ readings later. TakesAs old.left new.left (λ input rest. Session protocol result limits budget from readings input source sink (with_given old readings input) (with_given new later rest)))
 DoesWork (whole_input script) result limits from source sink old new = ReadsAs old.clock new.clock (λ readings later. TakesAs old.left new.left (λ input rest. Put result script limits from readings input sink (with_given old readings input) (with_given new later rest)))
@@ -109,7 +109,7 @@ DoesNoWork (folder_text text) old new = DoesNothing old new
 
 -- the contract of the work; `device` and `source` say that the error counter of folder or input rose, `before` and `now` are the error counter of the output
 pub record Performs (work : Work) (result : Status) (limits : Bounds) (device source : Type 0) (before now : ℕ) (old new : Outside) : Type 0 where
-  -- on a folder that is uninitialized or well formed the work is the run in the model, whatever clock and input tell
+  -- on a folder that is uninitialized or well formed the work is the run in the model, whatever clock and input give
   pub plays : ForSome old.folder.files (λ from. IsUsable from → DoesWork work result limits from source (Rises before now) old new)
   -- where nothing fails the whole output is printed, unless memory ran out
   pub complete : ForSome old.folder.files (λ from. IsUsable from → (device → ⊥) → (source → ⊥) → (Rises before now → ⊥) → CompletesWork work result limits from old new)

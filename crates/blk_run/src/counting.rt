@@ -42,7 +42,7 @@ pub(crate) fn run_count<F: Folder, K: Sink, C: Clock>(
     clock: &mut C,
 ) -> Status
     // On a folder that is uninitialized or well formed it is the run of the script of `count` on the map model, whatever the
-    // clock tells.
+    // clock gives.
     ensures script { ForSome (F.told folder.old).files (λ from. IsUsable from → ReadsAs (C.readings clock.old) (C.readings clock.new) (λ readings late. (left : Option (List ℕ)) → FixedScript result count_script (bounds_of limits) from readings (Rises (K.faults out.old) (K.faults out.new)) (outside (F.told folder.old) (K.written out.old) left (Some readings)) (outside (F.told folder.new) (K.written out.new) left (Some late)))) }
 
     // Where nothing fails the whole output is printed, unless it is out of memory.
@@ -56,7 +56,7 @@ pub(crate) fn run_count<F: Folder, K: Sink, C: Clock>(
     ensures later { (F.faults folder.old ≤ F.faults folder.new) × GoesOn K.is K.faults out.old out.new }
     ensures handed { IfWhole result (K.waiting out.old ≡ false → K.waiting out.new ≡ false) }
 
-    // Out of memory nothing is done, whatever of folder, output and clock is told.
+    // Out of memory nothing is done, whatever of folder, output and clock is observable.
     ensures memory { result ≡ Status.Memory → Stays (F.told folder.old) (F.told folder.new) × (K.written out.new ≡ K.written out.old) }
 
     // The folder decides the status, but for failures and out of memory.
@@ -66,13 +66,13 @@ pub(crate) fn run_count<F: Folder, K: Sink, C: Clock>(
     ensures printed { ShowsTotals result (bounds_of limits) (F.told folder.old).files (K.written out.old) (K.written out.new) }
     ensures damage { result ≡ Status.Damaged → IsFailedInOpening (F.told folder.old) (F.told folder.new) (K.written out.old) (K.written out.new) (K.faults out.old) (K.faults out.new) }
 
-    // In the end the same is found, and the folder is consistent.
+    // In the end recovery gives the same, and the folder is consistent.
     ensures ended { (result ≡ Status.Ok) ⊎ (result ≡ Status.Sink) → ForSome (F.told folder.old).files (λ start. ForSome (F.told folder.new).files (EndsSame start)) }
 
     // An uninitialized folder is made at the next reading of the clock, and keeps that moment.
     ensures made { (result ≡ Status.Ok) ⊎ (result ≡ Status.Sink) → ForSome (F.told folder.old).files (λ start. IsUnfinished start → ForSome (F.told folder.new).files (IsMadeAtNext (C.readings clock.old))) }
 
-    // At each word the same is found, and the folder is uninitialized or well formed where it was.
+    // At each word recovery gives the same, and the folder is uninitialized or well formed where it was.
     ensures stops { ForSome (F.told folder.old).files (λ start. PassesAny (F.told folder.old) (F.told folder.new) (HoldsStill start)) }
 
     // No step is made where an observable folder is corrupt.

@@ -43,7 +43,7 @@ pub(crate) fn show_verdict<F: Folder, K: Sink>(alloc: Global, out: &mut K, folde
     end_shown(&shown, out)
 }
 
-// Flushes the text that an inspection printed. Where it has one and that fails, the sink failed; a fault stays the answer.
+// Flushes the text that an inspection printed. Where it has one and that fails, the output failed; a fault stays the answer.
 fn flush_text<K: Sink>(shown: Result<(), InspectFault>, out: &mut K) -> Result<(), InspectFault>
     ensures flushed { IsFlushed shown result InspectFault.Sink (Rises (K.faults out.old) (K.faults out.new)) }
     ensures stays { K.written out.new ≡ K.written out.old }

@@ -144,7 +144,7 @@ pub(crate) fn ask<F: Folder, K: Sink, C: Clock>(
     flush_reply(answered, out)
 }
 
-// Flushes what a command printed. Where it has an answer and that fails, the sink failed; what went before stays the answer.
+// Flushes what a command printed. Where it has an answer and that fails, the output failed; what went before stays the answer.
 fn flush_reply<K: Sink>(
     answered: Result<Answer, StepFault>,
     out: &mut K,

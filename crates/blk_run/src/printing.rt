@@ -1,4 +1,4 @@
-// The lines that are printed. Each goes to the sink in pieces, takes no memory, and is flushed at its end.
+// The lines that are printed. Each goes to the output in pieces, takes no memory, and is flushed at its end.
 ghost use Rattle.std.specs.Prelude.{◌≡◌, ◌++◌, ◌≤◌, OnOk, OnErr, drop, length, false};
 ghost use Rattle.std.specs.List.{flat_map};
 ghost use Rattle.std.specs.Option.{option_map};
@@ -28,7 +28,7 @@ fn print_all<K: Sink>(out: &mut K, pieces: &[&[u8]]) -> Result<(), Failed>
 
 /// Prints the usage, on a line.
 ///
-/// Where the sink fails, a prefix of the line may have been printed.
+/// Where the output fails, a prefix of the line may have been printed.
 pub(crate) fn print_usage<K: Sink>(out: &mut K) -> Result<(), Failed>
     ensures steps { OnOk result (K.written out.new ≡ option_map (λ w. w ++ usage_text) (K.written out.old)) }
     ensures prefix { Appends (K.written out.old) (K.written out.new) usage_text }
@@ -54,7 +54,7 @@ fn digits_of(word: u32) -> [u8; 8]
 
 /// Prints a failed check, on a line.
 ///
-/// Where the sink fails, a prefix of the line may have been printed.
+/// Where the output fails, a prefix of the line may have been printed.
 pub fn print_damage<K: Sink>(out: &mut K, damage: Damage) -> Result<(), Failed>
     ensures steps { OnOk result (K.written out.new ≡ option_map (λ w. w ++ damage_line (damage_of damage)) (K.written out.old)) }
     ensures prefix { Appends (K.written out.old) (K.written out.new) (damage_line (damage_of damage)) }
@@ -96,7 +96,7 @@ fn left_out(n: u32) -> usize
 
 /// Prints how many items there are, and how many bytes, on a line.
 ///
-/// Where the sink fails, a prefix of the line may have been printed.
+/// Where the output fails, a prefix of the line may have been printed.
 pub fn print_totals<K: Sink>(out: &mut K, items: u64, bytes: u64) -> Result<(), Failed>
     ensures steps { OnOk result (K.written out.new ≡ option_map (λ w. w ++ totals_line items bytes) (K.written out.old)) }
     ensures prefix { Appends (K.written out.old) (K.written out.new) (totals_line items bytes) }

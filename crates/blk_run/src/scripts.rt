@@ -137,7 +137,7 @@ pub(crate) fn run_script<F: Folder, K: Sink, C: Clock>(
     clock: &mut C,
 ) -> Status
     requires few { commands_in fixed ≤ 2 ^ 36 }
-    // On a folder that is uninitialized or well formed it is the run of the script on the map model, whatever the clock tells.
+    // On a folder that is uninitialized or well formed it is the run of the script on the map model, whatever the clock gives.
     ensures script { ForSome (F.told folder.old).files (λ from. IsUsable from → ReadsAs (C.readings clock.old) (C.readings clock.new) (λ readings late. (left : Option (List ℕ)) → FixedScript result (script_of fixed.entry) (bounds_of limits) from readings (Rises (K.faults out.old) (K.faults out.new)) (outside (F.told folder.old) (K.written out.old) left (Some readings)) (outside (F.told folder.new) (K.written out.new) left (Some late)))) }
 
     // Where nothing fails the whole output is printed, unless it is out of memory.
@@ -146,7 +146,7 @@ pub(crate) fn run_script<F: Folder, K: Sink, C: Clock>(
     // On an initialized folder of which a check fails that is printed, and no more is done.
     ensures damage { ForSome (F.told folder.old).files (λ from. (damage : check_damage) → IsDamagedBy damage from → (left : Option (List ℕ)) → OnDamage result damage (K.faults out.old) (K.faults out.new) (outside (F.told folder.old) (K.written out.old) left (C.readings clock.old)) (outside (F.told folder.new) (K.written out.new) left (C.readings clock.new))) }
 
-    // Out of memory nothing is done, whatever of folder, output and clock is told.
+    // Out of memory nothing is done, whatever of folder, output and clock is observable.
     ensures memory { result ≡ Status.Memory → Stays (F.told folder.old) (F.told folder.new) × (K.written out.new ≡ K.written out.old) }
 
     // The cause of each status, on every folder.

@@ -38,7 +38,7 @@ use std::alloc::Global;
 
 /// Opens the folder, plays the lines of an input, closes what is open, and answers how it ended.
 ///
-/// Each line is a command, whose reply is printed on `out` once it is done and noted, or a fault, which is printed; either is flushed once it is printed,
+/// Each line is a command, whose reply is printed on `out` once it is done and noted, or a parse error, which is printed; either is flushed once it is printed,
 /// before the next line is played. The input is taken as it comes, and at most `budget` bytes of it are used; one byte more is taken, to see whether more
 /// follow. The clock is read once for the opening and once before each command, the closings among them. All memory is taken before the first step in the
 /// folder.
@@ -51,7 +51,7 @@ pub fn session<F: Folder, S: Source, K: Sink, C: Clock>(
     folder: &mut F,
     clock: &mut C,
 ) -> Status
-    // On a folder that is uninitialized or well formed it is the run of the lines on the map model, whatever clock and input tell.
+    // On a folder that is uninitialized or well formed it is the run of the lines on the map model, whatever clock and input give.
     ensures session { ForSome (F.told folder.old).files (λ from. IsUsable from → ReadsAs (C.readings clock.old) (C.readings clock.new) (λ readings late. TakesAs (S.left input.old) (S.left input.new) (λ bytes rest. Session by_lines result (bounds_of limits) budget from readings bytes (Rises (S.faults input.old) (S.faults input.new)) (Rises (K.faults out.old) (K.faults out.new)) (outside (F.told folder.old) (K.written out.old) (Some bytes) (Some readings)) (outside (F.told folder.new) (K.written out.new) (Some rest) (Some late))))) }
 
     // Where nothing fails and the input is within the budget the whole output is printed, unless it is out of memory.
@@ -60,7 +60,7 @@ pub fn session<F: Folder, S: Source, K: Sink, C: Clock>(
     // On an initialized folder of which a check fails that is printed, and no more is done.
     ensures damage { ForSome (F.told folder.old).files (λ from. (damage : check_damage) → IsDamagedBy damage from → OnDamage result damage (K.faults out.old) (K.faults out.new) (outside (F.told folder.old) (K.written out.old) (S.left input.old) (C.readings clock.old)) (outside (F.told folder.new) (K.written out.new) (S.left input.new) (C.readings clock.new))) }
 
-    // Out of memory nothing is done, whatever of folder, output and clock is told.
+    // Out of memory nothing is done, whatever of folder, output and clock is observable.
     ensures memory { result ≡ Status.Memory → Stays (F.told folder.old) (F.told folder.new) × (K.written out.new ≡ K.written out.old) }
     ensures untaken { result ≡ Status.Memory → S.left input.new ≡ S.left input.old }
 
@@ -68,7 +68,7 @@ pub fn session<F: Folder, S: Source, K: Sink, C: Clock>(
     ensures cause { CauseOf result (IsDamagedRun (F.told folder.old) (F.told folder.new) (K.written out.old) (K.written out.new) (K.faults out.old) (K.faults out.new)) (Rises (F.faults folder.old) (F.faults folder.new)) (Rises (S.faults input.old) (S.faults input.new)) (Rises (K.faults out.old) (K.faults out.new)) (ForSome (S.left input.old) (λ bytes. budget < length bytes)) }
     ensures later { (F.faults folder.old ≤ F.faults folder.new) × ((S.faults input.old ≤ S.faults input.new) × GoesOn K.is K.faults out.old out.new) }
 
-    // Where all is done nothing of it waits in the sink, on every sink.
+    // Where all is done nothing of it waits in the output, on every output.
     ensures handed { IfWhole result (K.waiting out.old ≡ false → K.waiting out.new ≡ false) }
 
     // No more of the input is taken than the budget and one byte.

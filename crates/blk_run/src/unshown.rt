@@ -33,7 +33,7 @@ pub(crate) fn ask_unshown<F: Folder, C: Clock>(
     ask(cache, command, &mut Unshown, folder, clock)
 }
 
-// A sink for replies that aren't shown: nothing of it is told.
+// An opaque output, for replies that aren't shown.
 #[derive(Drop)]
 struct Unshown;
 

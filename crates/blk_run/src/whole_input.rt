@@ -18,14 +18,14 @@ pub(crate) enum InputFault {
     TooLong,
 }
 
-// Reads the whole input into the start of the buffer, which is a byte longer than the input may be, and tells how many bytes it
+// Reads the whole input into the start of the buffer, which is a byte longer than the input may be, and gives how many bytes it
 // is.
 pub(crate) fn read_input<S: Source>(input: &mut S, buffer: &mut [u8]) -> Result<usize, InputFault>
     requires buffer { length buffer.old ≡ 1048577 }
     ensures buffer { length buffer.new ≡ 1048577 }
     ensures reads { Reads result (S.left input.old) (S.left input.new) buffer.new }
 
-    // Whether the input tells its bytes or not.
+    // The bytes that were read are those that the input gave, whether it is observable or not.
     ensures given { TakesAs (S.left input.old) (S.left input.new) (λ bytes rest. Reads result (Some bytes) (Some rest) buffer.new) }
     ensures later { S.faults input.old ≤ S.faults input.new }
     ensures source { IfSource result (Rises (S.faults input.old) (S.faults input.new)) }

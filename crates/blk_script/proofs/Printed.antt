@@ -43,7 +43,7 @@ unfolding data_text
 data_text-nil [] none = refl
 data_text-nil (byte ∷ bytes) none = absurd (omega arith)
 
--- the bytes that are escaped are those that do not stand for themselves
+-- the bytes that are escaped are those that are not printed as they are
 escaped_is : (byte : ℕ) → byte < 256 → should_percent_encode ESCAPED byte ≡ not (is_plain_byte byte)
 unfolding should_percent_encode
 escaped_is byte small = agree_below_at (λ b. should_percent_encode ESCAPED b) (λ b. not (is_plain_byte b)) 256 byte refl small

@@ -1,4 +1,4 @@
--- Text that is put into a sink piece by piece.
+-- Text is written to an output piece by piece.
 use Rattle.std.proofs.Common.{◌≡◌, List, [], ◌++◌, ℕ, ◌^◌, ◌-◌, ◌<◌, ◌≤◌, Option, Some, None, refl, sym, ap, ◌∙◌, arith, append_assoc}
 use Rattle.std.proofs.lemmas.List.{append-nil}
 use Rattle.std.specs.Option.{option_map}

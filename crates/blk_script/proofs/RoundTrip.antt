@@ -60,7 +60,7 @@ all-append : (p : ℕ → Bool) (front rest : List ℕ) → list_all p front ≡
 all-append p [] rest all = refl
 all-append p (x ∷ front) rest all = ap (λ b. b && list_all p (front ++ rest)) (and_parts (p x) _ all).0 ∙ all-append p front rest (and_parts (p x) _ all).1
 
--- what a byte that stands for itself is
+-- what holds of a byte that is printed as it is
 abbrev plain_checks : ℕ → Bool
 plain_checks byte = is_key_byte byte && not (byte == 37) && not (byte == 32)
 

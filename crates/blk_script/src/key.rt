@@ -67,7 +67,7 @@ fn is_hex_digit(byte: u8) -> bool
     byte.is_ascii_hexdigit()
 }
 
-// Decodes a field into the start of the buffer, and tells how many bytes it gave.
+// Decodes a field into the start of the buffer, and gives the number of its bytes.
 fn decode_into(field: &[u8], buffer: &mut [u8]) -> usize
     requires { length field.now ≤ length buffer.old }
     ensures within { result ≤ length buffer.new }

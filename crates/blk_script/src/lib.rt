@@ -1,7 +1,7 @@
 //! The language of the program: script lines are read into commands, and commands and replies
 //! are printed.
 //!
-//! No call takes memory. `man/blkcache.1` tells the language.
+//! No call takes memory. `man/blkcache.1` describes the language.
 #![tactic(auto)]
 
 mod answers;

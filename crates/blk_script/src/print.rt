@@ -14,7 +14,7 @@ use percent_encoding::{AsciiSet, NON_ALPHANUMERIC, ascii_set, percent_encode};
 /// How many bytes are turned into digits at once.
 const PIECE: usize = 256;
 
-/// The bytes of a key that do not stand for themselves: all but letters, digits and six marks.
+/// The bytes of a key that are printed as escapes: all but letters, digits and six marks.
 const ESCAPED: AsciiSet = ascii_set!(
     NON_ALPHANUMERIC
         .remove(b'-')

@@ -116,7 +116,7 @@ module _ (state : State) (layout : Layout) (unlinked : List ℕ) (number : ℕ) 
       let some = is.key.some in let short = is.key.short in let said = key-said in let key = ap length its-key in
       record { checks = loaded-checks from entry p.was bytes loads-with; some = omega (arith, some, said, key); short = omega (arith, short, said, key) }
 
-  -- with a signature it is valid
+  -- with a generation it is valid
   module _ (signature : ℕ) (small : signature < signatures) where
     sparse-valid : IsValidState (with_object state number (with_signature object signature))
     sparse-valid = state_changed state p.kept.valid number object p.here named (with_signature object signature)
@@ -195,7 +195,7 @@ module _ (state : State) (layout : Layout) (unlinked : List ℕ) (number : ℕ) 
         unfolding stored_streams_with
         third-there = ap (stream 2) w.after.streams ∙ cut-all (stream 2 p.was.streams) bytes
 
-        -- its object is the one with the signature, at last
+        -- its object is the one with the generation, at last
         becomes : as_sparse between h.index.signature ≡ with_signature object signature
         becomes = λ i. record object { shape = sparse (h.signature_is i); streams = (object.streams.0, sym p.second i, sym p.third i); settled = sym p.unsettled i }
 

@@ -71,7 +71,7 @@ abbrev value-in : Row → PartValue
 value-in (main_row key shape streams) = empty_part
 value-in (part_row key n value) = value
 
--- the row of a part by its name, its data and its presence
+-- the row of a part by its name, its data and its validity bitmap
 row-by : (key : List ℕ) (name : Name) (index : PartIndex) (streams : List (List ℕ)) (key_is : List ℕ) (n : ℕ) (value : PartValue) → name.key ≡ key_is → name.part ≡ n → stream 1 streams ≡ value.bytes → presence_in index ≡ value.presence → row_with key (IsPart name index) streams ≡ part_row key_is n value
 unfolding presence_in
 row-by key name index streams key_is n value k m b p i = part_row (k i) (m i) (record { bytes = b i; presence = p i })

@@ -1,4 +1,4 @@
--- A part that got a piece is used.
+-- A part that got a piece is accessed.
 use Rattle.std.proofs.Common.{◌≡◌, inl, inr, ℕ, ◌+◌, List, [], length, refl, sym, ◌∙◌, subst, Option, Some, None, Result, ap}
 use Rattle.std.specs.Option.{ForSome}
 use Rattle.spec_image.specs.Image.{Image}

@@ -43,6 +43,6 @@ module _ (state : State) (layout : Layout) (unlinked : List ℕ) (number : ℕ) 
   pub key-same : (len : ℕ) (name front : List ℕ) → front ≡ take 32768 name → len ≤ 32768 → ((key : List ℕ) → HasParentKey entry key from → take len name ≡ key) → object.key ≡ take len front
   key-same len name front is short read = sym (ap (take len) is ∙ take-take len 32768 name short ∙ read object.key parent-key)
 
--- with another word for the same signature
+-- with another word for the same generation
 pub signed-parent : (state : State) (layout : Layout) (unlinked : List ℕ) (number : ℕ) (object : Object) (node entry signature other : ℕ) (from : Image) → other ≡ signature → KeepsParent state layout unlinked number object node entry signature from → KeepsParent state layout unlinked number object node entry other from
 signed-parent state layout unlinked number object node entry signature other from is p = subst (λ (s : ℕ). KeepsParent state layout unlinked number object node entry s from) (sym is) p

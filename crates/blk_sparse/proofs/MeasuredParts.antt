@@ -56,7 +56,7 @@ longer : (name was end : ℕ) → (name + was + 192) + (end - was) ≡ name + ma
 longer name was end = omega arith
 
 module _ (state : State) (layout : Layout) (unlinked : List ℕ) (number : ℕ) (object : Object) (node entry signature : ℕ) (from : Image) (p : KeepsParent state layout unlinked number object node entry signature from) where
-  -- its object has the signature of its index
+  -- its object has the generation of its index
   pub shape-is : object.shape ≡ sparse signature
   shape-is =
       let lies : layout.at (node_of_object layout number object) ≡ Some p.was = rw p.live p.lies in

@@ -1,4 +1,4 @@
--- What a state lists more than another one, told by the totals, where one live object differs.
+-- What a state lists more than another one, by the totals of both, where one live object differs.
 use Rattle.std.proofs.Common.{◌≡◌, ℕ, ◌+◌, List, length, set, get_or, true, Option, Some, None, refl, ap, ◌∙◌, arith, cond}
 use Rattle.std.specs.List.{count_by, sum_by}
 use Rattle.std.proofs.lemmas.List.Sums.{sum_by-set}
@@ -47,7 +47,7 @@ module _ (state : State) (number : ℕ) (object other : Object) (here : object_a
       let now = live-not other lives in
       omega (arith, moved, was, now)
 
-  -- so they tell what is listed more
+  -- so they give what is listed more
   pub more-listed : (after : State) (layout now : Layout) (unlinked left : List ℕ) (image end : Image) (entries charge : ℕ) → KeepsUncounted state layout unlinked image → KeepsUncounted after now left end
       → after.objects ≡ set state.objects number (Some other) → items after ≡ items state + entries → total after ≡ total state + charge → AreMoreItems state after layout now entries charge
   more-listed after layout now unlinked left image end entries charge k l objects items_more total_more =

@@ -233,7 +233,7 @@ module _ (state : State) (objects : List (Option Object)) (layout : Layout) (unl
     pub change-finds : Finds (rest state) image
     change-finds = subst (λ (rows : List Row). Finds rows image) t.same_rest (making-finds state objects layout (words_of l ++ unlinked) key n was seen l chains from image t.kept t.written making)
 
-    -- seals hold
+    -- checksums stay
     still-sealed : (layout_so : Layout) (node : ℕ) (other : Loaded) → load (store_of mid) (rule_of layout_so node) node ≡ Ok other → AreApart other → AreSealed mid other → AreSealed image other
     still-sealed layout_so node other loads apart sealed =
         let st = standing-loaded mid layout_so node other loads in

@@ -76,7 +76,7 @@ in-times item (x ∷ uses) h = go (same_item item x) refl h (in-times item uses)
   go true e h later = let c : times item (x ∷ uses) ≡ 1 + times item uses = times-cons item x uses ∙ ap (λ (b : Bool). cond b 1 0 + times item uses) e in omega (arith, c)
   go false e h later = let c : times item (x ∷ uses) ≡ 0 + times item uses = times-cons item x uses ∙ ap (λ (b : Bool). cond b 1 0 + times item uses) e in let more = later h in omega (arith, c, more)
 
--- an item that is not listed is used by being put in front
+-- an item that is not listed is accessed by being put in front
 used-new : (item : Item) (uses : List Item) → is_in uses item ≡ false → filter (λ other. not (same_item item other)) uses ≡ uses
 used-new item [] h = refl
 used-new item (x ∷ uses) h = go (same_item item x) refl h (used-new item uses) where

@@ -77,7 +77,7 @@ module _ (a b : Told) (parent : ℕ) (child : ChildName) (name : List ℕ) (plac
       room = let room = can.grows.room in omega (arith, room);
     }
 
-    -- files that are told aren't none
+    -- the premise on the files holds of the observed ones
     pub taking-untold : {A : Type 0} (r : Result A Fault) → (ForSome a.files (LeavesRoom 5) → IfDamaged r (λ _. a.files ≡ None)) → IfDamaged r (λ _. a.files ≡ None)
     taking-untold {A} r untold = untold (told-at (LeavesRoom 5) a.files from there room)
 

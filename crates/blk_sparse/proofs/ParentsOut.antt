@@ -62,7 +62,7 @@ module _ (words : List ℕ) (state : State) (layout : Layout) (unlinked key : Li
 pub beside : (layout : Layout) (items : List Item) (charge : ℕ) (parts : Gone) → AreGone layout items parts → AreGoneBeside layout items charge (record { items = parts.items + 1; bytes = parts.bytes + charge })
 beside layout items charge parts gone = record { many = ap (λ (n : ℕ). n + 1) gone.many; charged = ap (λ (n : ℕ). n + charge) gone.charged }
 
--- nothing was told yet
+-- `each` was called with no number yet
 pub not-yet : (E : Type 0) (call : E → ℕ → E → Type 0) (numbers : List ℕ) (each : E) → IsCalledOverPrefix E call numbers each each
 not-yet E call numbers each = record { front = []; others = numbers; split = refl; called = refl }
 
@@ -119,7 +119,7 @@ module _ {held : Bool} (state : State) (layout : Layout) (unlinked : List ℕ) (
     others = subst (λ (k : List ℕ). LeavesOtherKeys k (keeps_but (λ item. true) (main object.key))) m.of_key (main-leaves object.key);
   }
 
-  -- its items are told
+  -- the answer has the number of its items and the sum of their costs
   pub group-told : (charge : ℕ) (gone : Gone) → charge ≡ charge_of m.lies.was → AreGoneBeside layout (map (part key) (parts_among key state.uses)) charge gone → IsGroupTold state layout key gone
   group-told charge gone is beside_is =
       let parts : List Item = map (part key) (parts_among key state.uses) in

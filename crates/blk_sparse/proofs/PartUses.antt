@@ -1,4 +1,4 @@
--- The use of a listed item, by the node that its record names.
+-- The access to a listed item, by the node that its record names.
 use Rattle.std.proofs.Common.{refl, ◌≡◌, inl, inr, ℕ, ◌+◌, List, ◌∷◌, ◌++◌, ap, sym, ◌∙◌, subst, Bool, true, false, Some, Ok}
 use Rattle.std.specs.Prelude.{nat_lt, if◌then◌else◌, ◌==◌}
 use Rattle.std.specs.Option.{ForSome}
@@ -72,14 +72,14 @@ module _ (state : State) (layout : Layout) (unlinked : List ℕ) (item : Item) (
   pub node-amid : IsAmidList (layout.place item) from
   node-amid = listed-amid state layout unlinked from item l.kept l.listed
 
-  -- at each word of its touch
+  -- at each word of the access
   pub touch-finds : (image : Image) → IsTouched from (layout.place item) (touch_writes (layout.place item) (list_of from)) image → FindsBeforeOrAfter state item image
   touch-finds image touched = either (nat_lt touched.made 2) (touches-find state layout unlinked from image l.kept item l.listed touched) where
     either : (b : Bool) → Finds (if b then rest state else rest (with_used state item)) image → FindsBeforeOrAfter state item image
     either true f = inl f
     either false f = inr f
 
-  -- once it is touched
+  -- once it is accessed
   pub touch-used : (image : Image) → IsTouchDone from (layout.place item) image → IsUsed state layout unlinked item from image
   touch-used image done = record {
     kept = touch-keeps state layout unlinked from image item l.kept l.listed done;

@@ -123,6 +123,6 @@ module _ (state : State) (number : ℕ) (object : Object) (valid : IsValidState 
   rest-whatever other uses is keeps =
       unsettled-rest state number object other object uses state.uses valid here live is (record { key_is = refl; live = live; unsettled = loose }) keeps refl ∙ ap rest (as-it-is state.uses)
 
-  -- also once one of its items is used
+  -- also once one of its items is accessed
   pub keeps-used : (item : Item) → key_of item ≡ object.key → KeepsOtherKeys state object.key (used item state.uses)
   keeps-used item its = (own-uses state object.key item state.uses its refl).1

@@ -63,7 +63,7 @@ dropping-begins E call old key signature each from there finds state layout keep
 }
 
 module _ (E : Type 0) (call : E → ℕ → E → Type 0) (old now : Told) (state : State) (layout : Layout) (keep : Item → Bool) (unlinked key : List ℕ) (number : ℕ) (object : Object) (from : Image) (at : Option ℕ) (turn : ℕ) (gone : Gone) (each last : E) (d : IsDropping E call old now state layout keep unlinked key number object from at turn gone each last) where
-  -- what was told so far is a prefix
+  -- the numbers that `each` was called with so far are a prefix of all
   pub called-prefix : IsCalledOverPrefix E call (parts_among key (filter keep state.uses)) each last
   called-prefix = record { front = d.walked.done; others = parts_among key d.walked.is.items; split = d.walked.split; called = d.walked.called }
 

@@ -43,7 +43,7 @@ if_ok_weaker (Err e) P Q weaker holds = tt
 
 -- ---- the name of a part
 
--- a key that says that it is this part of a key is its name, but for the signature
+-- a key that says that it is this part of a key is its name, but for the generation
 pub same-part : (key bytes name : List ℕ) (signature number : ℕ) → number_said key (read_name bytes) ≡ Some number → name ≡ child_name key signature number → IsOfSamePart bytes name
 same-part key bytes name signature number said printed = go (read_name bytes) refl said where
   go : (o : Option Name) → read_name bytes ≡ o → number_said key o ≡ Some number → IsOfSamePart bytes name

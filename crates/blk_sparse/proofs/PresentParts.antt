@@ -92,7 +92,7 @@ pub sparse-empty : (object : Object) (offset : ℕ) → sparse_bytes object offs
 unfolding sparse_bytes numbers_from
 sparse-empty object offset = refl
 
--- ---- the runs as they are told
+-- ---- the runs as they are answered
 
 shifted : (offset place rest start r : ℕ) → start ≡ r → place ≡ rest → offset - place + start ≡ r + (offset - rest)
 shifted offset place rest start r s p = omega (arith, s, p)

@@ -62,7 +62,7 @@ not-none n = ne_eqb (1 + n) 0 (λ e. absurd (omega (arith, e)))
 
 -- ---- bytes up to the first that is missing
 
--- where a test tells which are there, they are those that pass it at the front
+-- where a test says which are there, those up to the first missing one are the longest prefix that passes it
 pub missing-front : (t : ℕ → Bool) (g : ℕ → ℕ) (xs : List ℕ) → up_to_missing (map (λ p. if t p then Some (g p) else None) xs) ≡ map g (take_while t xs)
 missing-front t g [] = refl
 missing-front t g (x ∷ xs) = by (missing-front t g xs) (t x) refl where
@@ -90,7 +90,7 @@ tests-front t (x ∷ xs) = by (tests-front t xs) (t x) refl where
   by later true e = ap (λ (l : List Bool). length l) (while-true (λ b. b) (t x) (map t xs) e) ∙ ap suc later ∙ sym (ap (λ (l : List ℕ). length l) (while-true t x xs e))
   by later false e = ap (λ (l : List Bool). length l) (while-false (λ b. b) (t x) (map t xs) e) ∙ sym (ap (λ (l : List ℕ). length l) (while-false t x xs e))
 
--- those at the front of a range are a range
+-- a prefix of a range that passes a test is a range
 pub front-numbers : (t : ℕ → Bool) (first n : ℕ) → take_while t (numbers_from first n) ≡ numbers_from first (length (take_while t (numbers_from first n)))
 unfolding numbers_from
 front-numbers t first zero = refl
@@ -166,7 +166,7 @@ front-less (true ∷ xs) ys e =
     omega (arith, both, later, long)
 front-less (false ∷ xs) ys e = refl
 
--- the run of some tests from a place on, told as above
+-- the run of some tests from a place on, as above
 tests-run-front : (place : ℕ) (tests : List Bool) → ((first_run place place tests).0 ≡ place → (first_run place place tests).1 ≡ length (take_while (λ b. b) tests)) × ((first_run place place tests).0 ≢ place → length (take_while (λ b. b) tests) ≡ 0)
 tests-run-front place [] = ((λ e. refl), (λ e. refl))
 tests-run-front place (true ∷ tests) = ((λ e. let long = ap (λ (l : List Bool). length l) (while-true (λ b. b) true tests refl) in omega (arith, long)), (λ e. absurd (e refl)))

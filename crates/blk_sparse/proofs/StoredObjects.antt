@@ -1,4 +1,4 @@
--- Sparse data are written to an open object: its main item is used, it gets an index, and the bytes are written and counted.
+-- Sparse data are written to an open object: its main item is accessed, it gets an index, and the bytes are written and counted.
 use Rattle.std.proofs.Common.{◌≡◌, inl, inr, ℕ, ◌<◌, ◌^◌, List, [], ◌∷◌, length, true, false, Option, Some, None, Result, refl, sym, ◌∙◌, ap, subst, arith}
 use Rattle.std.specs.Prelude.{IfSome}
 use Rattle.std.specs.Option.{ForSome}
@@ -46,7 +46,7 @@ use Rattle.blk_sparse.proofs.NewMade.{set-self}
 use Rattle.blk_sparse.proofs.OthersLie.{others-of, others-same, others-then}
 use Rattle.blk_sparse.proofs.PartValid.{keeps-used, rest-whatever}
 
--- ---- the main item is used
+-- ---- the main item is accessed
 
 module _ (ns : List ℕ) (target : Target) (state : State) (layout : Layout) (unlinked : List ℕ) (number : ℕ) (object : Object) (from : Image) (t : IsTarget ns state layout unlinked number object target from) where
   pub target-listed : IsListedAt state layout unlinked (main object.key) target.parent.entry from
@@ -135,7 +135,7 @@ module _ (ns : List ℕ) (target : Target) (state : State) (layout : Layout) (un
 
 -- ---- the bytes are counted
 
--- the session is that of the dirty word of a dirty object
+-- the session is that of the dirty flag of a dirty object
 same-session : (state : State) (layout : Layout) (unlinked : List ℕ) (number : ℕ) (object : Object) (was : Loaded) (mid image : Image) → KeepsUncounted state layout unlinked mid → KeepsUncounted state layout unlinked image → object_at state number ≡ Some object → object.live ≡ true → object.settled ≡ false
     → layout.at (layout.place (main object.key)) ≡ Some was → SameSession mid image
 same-session state layout unlinked number object was mid image k l here live loose lies =

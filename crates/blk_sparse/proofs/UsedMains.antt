@@ -1,4 +1,4 @@
--- The main item of an object with parts is used, before its parts are.
+-- The main item of an object with parts is accessed, before its parts are.
 use Rattle.std.proofs.Common.{◌≡◌, ℕ, List, [], ◌∷◌, Some, true}
 use Rattle.std.specs.Option.{ForSome}
 use Rattle.spec_image.specs.Image.{Image}
@@ -24,6 +24,6 @@ module _ (a m : Told) (from : Image) (there : a.files ≡ Some from) (state : St
   pub main-further : (ys : List Item) → Passes a m (FindsBeforeOrAfter state (main object.key)) → Passes a m (FindsUsed state (main object.key ∷ ys))
   main-further ys stops = first-further a m m from there state layout unlinked number object node entry signature p (main object.key ∷ []) ys (main-stops stops)
 
-  -- once it is used
+  -- once it is accessed
   pub main-used : ForSome m.files (IsUsed state layout unlinked (main object.key) from) → ForSome m.files (KeepsParentUsed state layout unlinked number object node entry signature (main object.key ∷ []) from)
   main-used used image is = one-used state layout unlinked number object node entry signature from p (main object.key) image (used image is)

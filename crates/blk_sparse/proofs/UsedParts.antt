@@ -1,4 +1,4 @@
--- The parts that a range covers are used, one after the other.
+-- The parts that a range covers are accessed, one after the other.
 use Rattle.std.proofs.Common.{◌≡◌, ◌≢◌, inl, inr, ℕ, zero, suc, ◌+◌, ◌<◌, ◌≤◌, ap₂, append-nil, List, [], ◌∷◌, ◌++◌, map, refl, ap, sym, ◌∙◌, subst, arith, append_assoc, Bool, true, false, Some, None}
 use Rattle.std.specs.Prelude.{◌-◌, ◌/◌, ◌==◌, filter, is_some, if◌then◌else◌}
 use Rattle.std.specs.Option.{ForSome}
@@ -122,7 +122,7 @@ module _ (state : State) (layout : Layout) (unlinked : List ℕ) (number : ℕ) 
   pub its-part : (n of_part : ℕ) → HasPartAt layout object n of_part → IsListedAt state layout unlinked (part object.key n) of_part from
   its-part n of_part at = record { kept = p.kept; listed = part-listed state p.kept.valid number object p.here p.live n at.value at.has; was = at.was; lies = at.lies; record_is = at.record_is }
 
-  -- once an item is used
+  -- once an item is accessed
   pub one-used : (item : Item) (image : Image) → IsUsed state layout unlinked item from image → KeepsParentUsed state layout unlinked number object node entry signature (item ∷ []) from image
   one-used item image u = record {
     parent = record { kept = u.kept; here = p.here; live = p.live; node_is = p.node_is; was = p.was; lies = p.lies; record_is = p.record_is; index = p.index; role = p.role; same = p.same };

@@ -87,7 +87,7 @@ pub record IsWholeDropped (state : State) (layout : Layout) (unlinked key : List
 
 -- One part after another.
 
--- a walk of the list has come to `node` (None at its begin) and met no part of the key; `items` are those behind it
+-- a walk of the list has come to `node` (None at its begin) and met no part of the key; `items` are those after it
 pub record IsBehind (layout : Layout) (key : List ℕ) (all : List Item) (node : Option ℕ) : Type 0 where
   pub front : List Item
   pub items : List Item
@@ -95,14 +95,14 @@ pub record IsBehind (layout : Layout) (key : List ℕ) (all : List Item) (node :
   pub none : HaveNoPart key front
   pub last : node ≡ last_node_of (nodes_of layout front)
 
--- P holds wherever parts of the key may be left, all of them behind `node` in the list, or anywhere where that is None
+-- P holds wherever parts of the key may be left, all of them after `node` in the list, or anywhere where that is None
 abbrev pub ForEachBehind : (key : List ℕ) (signature : ℕ) (node : Option ℕ) → Image → ((state : State) (layout : Layout) (keep : Item → Bool) → List ℕ → ℕ → Object → IsBehind layout key (filter keep state.uses) node → Type 0) → Type 0
 ForEachBehind key signature node from P =
     (state : State) (layout : Layout) (keep : Item → Bool) (chains : ℕ → List ℕ) (unlinked : List ℕ) (number : ℕ) (object : Object)
     → AreLeft state layout keep chains unlinked key number object from → HasSignature layout key signature → (is : IsBehind layout key (filter keep state.uses) node)
     → P state layout keep unlinked number object is
 
--- the first part of the key behind the node is out too: its number, its cost, and the node before it in the list are told
+-- the first part of the key after the node is out too: its number, its cost, and the node before it in the list are given
 pub record IsNextOut (state : State) (layout : Layout) (keep : Item → Bool) (unlinked key : List ℕ) (number : ℕ) (object : Object) (front items : List Item) (dropped : Dropped) (image : Image) : Type 0 where
   pub passed : List Item
   pub behind : List Item
@@ -115,7 +115,7 @@ pub record IsNextOut (state : State) (layout : Layout) (keep : Item → Bool) (u
   pub chains : ℕ → List ℕ
   pub left : AreLeft state layout (keeps_but keep (part key dropped.number)) chains unlinked key number object image
 
--- a removal of the next part: the first behind the node is out, or None where no item behind it is a part of the key, and nothing has changed
+-- a removal of the next part: the first after the node is out, or None where no item after it is a part of the key, and nothing has changed
 abbrev pub IsDropOfNext : (state : State) (layout : Layout) (keep : Item → Bool) (unlinked key : List ℕ) (number : ℕ) (object : Object) (front items : List Item) (next : Option Dropped) (from image : Image) → Type 0
 IsDropOfNext state layout keep unlinked key number object front items None from image = HaveNoPart key items × (image ≡ from)
 IsDropOfNext state layout keep unlinked key number object front items (Some dropped) from image = IsNextOut state layout keep unlinked key number object front items dropped image

@@ -27,12 +27,12 @@ use blk_ranges::{INDEX, LONGEST_KEY, ParentHead, ParentMap};
 use blk_record::{EntryView, PARENT};
 
 /// Makes a plain object, that is dirty and has nothing in its second and its third stream, a sparse one with a
-/// signature: its third stream gets the index of a parent without parts, and then its record the flags of a parent.
+/// generation: its third stream gets the index of a parent without parts, and then its record the flags of a parent.
 ///
 /// The counters of the index stay. One folder call reads the record, and four give it the flags, beside those of
 /// `write_object`.
 ///
-/// A failed check is one of `write_object`, a record that doesn't check, or one with a key of a length that no object's
+/// A failed check is one of `write_object`, a record with a wrong checksum, or one with a key of a length that no object's
 /// has.
 pub fn begin<F: Folder>(
     f: &mut F,
@@ -125,7 +125,7 @@ fn give_index<F: Folder>(
     set_parent(folder, files, entry)
 }
 
-// Gives a record the flags of a parent, by one sealed update.
+// Gives a record the flags of a parent, by one update under a checksum 0.
 fn set_parent<F: Folder>(folder: &mut F, files: &BlockFiles, entry: Addr) -> Result<(), Fault>
     requires kind { kind_of entry ≡ blocks_256 }
     requires stands { IsTrue (stands_among files.now entry) }

@@ -34,7 +34,7 @@ use blk_ranges::LONGEST_KEY;
 use blk_record::EntryView;
 
 /// The main item of an object with parts: its record, the node that it has, or had before it was taken out of the list
-/// and of its chain, and the signature of its index.
+/// and of its chain, and the generation of its index.
 #[derive(Clone, Copy, Debug, PartialEq, Eq)]
 pub struct Parent {
     pub entry: Addr,
@@ -56,7 +56,7 @@ pub fn drop_children<F: Folder>(
     requires is_open { ForSome (F.told f.old).files (IsOpen files.now) }
 
     // Where the parent of an object is out, and perhaps parts of it, and what is left is counted, all its items are out in the end, in the same session. How
-    // many parts went is told.
+    // many parts went is the answer.
     ensures out { OnOk result (ForSome (F.told f.old).files (λ from. ForEachParentOut parent.now.node parent.now.entry (cast_unsigned w64 parent.now.signature) from (λ state layout keep unlinked number object. ForSome (F.told f.new).files (IsWholeDropped state layout unlinked object.key)))) }
     ensures count { IfOk result (λ count. ForSome (F.told f.old).files (λ from. ForEachParentOut parent.now.node parent.now.entry (cast_unsigned w64 parent.now.signature) from (λ state layout keep unlinked number object. count ≡ length (parts_among object.key (filter keep state.uses))))) }
     ensures session { OnOk result (ForSome (F.told f.old).files (λ from. ForEachParentOut parent.now.node parent.now.entry (cast_unsigned w64 parent.now.signature) from (λ state layout keep unlinked number object. ForSome (F.told f.new).files (SameSession from)))) }
@@ -106,7 +106,7 @@ pub fn drop_children_with<F: Folder, E: FnMut(u32)>(
     requires is_open { ForSome (F.told folder.old).files (IsOpen files.now) }
 
     // Where the parent of an object is out, and perhaps parts of it, and what is left is counted, all its items are out in the end, in the same session. How
-    // many parts went is told.
+    // many parts went is the answer.
     ensures out { OnOk result (ForSome (F.told folder.old).files (λ from. ForEachParentOut parent.now.node parent.now.entry (cast_unsigned w64 parent.now.signature) from (λ state layout keep unlinked number object. ForSome (F.told folder.new).files (IsWholeDropped state layout unlinked object.key)))) }
     ensures count { IfOk result (λ count. ForSome (F.told folder.old).files (λ from. ForEachParentOut parent.now.node parent.now.entry (cast_unsigned w64 parent.now.signature) from (λ state layout keep unlinked number object. count ≡ length (parts_among object.key (filter keep state.uses))))) }
     ensures session { OnOk result (ForSome (F.told folder.old).files (λ from. ForEachParentOut parent.now.node parent.now.entry (cast_unsigned w64 parent.now.signature) from (λ state layout keep unlinked number object. ForSome (F.told folder.new).files (SameSession from)))) }

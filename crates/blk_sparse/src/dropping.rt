@@ -56,7 +56,7 @@ struct Dropped {
 /// Removes the parts of a key after its main item: each is taken out of list and chain, its places are freed, and it is counted no longer; and then `each` is
 /// called with its number. That is in the order of the LRU list, in one walk over it.
 ///
-/// The signature is that of the index of the key's main item, and the names of the parts are made in `buffer`. This takes three
+/// The generation is that of the index of the key's main item, and the names of the parts are made in `buffer`. This takes three
 /// folder calls for each item of the list, two more for a part of any key, and those of `find` and `remove_part` for each
 /// part that goes. A part that its name doesn't find is corruption, of the hash of its record. No more parts go than a list
 /// has nodes.
@@ -159,7 +159,7 @@ pub(crate) fn drop_indexed_with<F: Folder, E: FnMut(u32)>(
     drop_parts_with(folder, files, key, indexed.signature, buffer, each)
 }
 
-// Removes the first part of a key behind a node of the list, or from the front of the list on, if there is one.
+// Removes the first part of a key after a node of the list, or from the front of the list on, if there is one.
 fn drop_next<F: Folder>(
     folder: &mut F,
     files: &BlockFiles,

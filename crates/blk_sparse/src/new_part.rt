@@ -172,7 +172,7 @@ fn name_streams<F: Folder>(
     // Where the addresses store streams of these lengths, the record has these streams in the end.
     ensures named { OnOk result (ForSome (F.told folder.old).files (λ from. ForSome (F.told folder.new).files (λ image. (bytes map : List ℕ) → length bytes ≡ size → length map ≡ part_index_length → RecordChecks entry from → HasStreamsNow entry (record { stored = bytes; index = map; stored_addr = stored; index_addr = index }) from image))) }
 
-    // At each word of the update of a record that checks nothing else has changed.
+    // At each word of the update of a record whose checksum matches or is absent, nothing else has changed.
     ensures stops { ForSome (F.told folder.old).files (λ from. RecordChecks entry from → Passes (F.told folder.old) (F.told folder.new) (SameOutside (record_range entry) from)) }
     ensures is_open { ForSome (F.told folder.old).files (RecordChecks entry) → ForSome (F.told folder.new).files (IsOpen files.now) }
     ensures damaged { IfDamaged result (IsFailedCheck files.now (F.told folder.new)) }
@@ -320,7 +320,7 @@ fn first_index(child: &ChildName, place: u32, count: u32) -> [u8; 192]
 /// Makes a part that doesn't exist, of a dirty object, with a piece of its data, from a place in it on.
 ///
 /// Its places are taken and its two streams are stored first; then its entry is written there, and its record names the
-/// streams by one sealed update. Then its node comes in front of the LRU list, its record in front of its chain, and at
+/// streams by one update under a checksum 0. Then its node comes in front of the LRU list, its record in front of its chain, and at
 /// last its parent gets its bit, where it hasn't. The counters of the index stay.
 pub(crate) fn make_part<F: Folder>(
     folder: &mut F,

@@ -69,7 +69,7 @@ pub fn remove_parent_with<F: Folder, E: FnMut(u32)>(
     requires is_open { ForSome (F.told folder.old).files (IsOpen files.now) }
 
     // Where these are its places and its cost, and there is such an object in a state that is kept, the state with it doomed is kept in the end, in the same
-    // session. How many items went is told, and the sum of their costs.
+    // session. The answer has how many items went, and the sum of their costs.
     ensures removed { OnOk result (ForSome (F.told folder.old).files (λ from. IsOwnedBy found.now.entry owned.now from → ForEachParent key.now node found.now.entry found.now.before from (λ state layout unlinked number object. ForSome (F.told folder.new).files (IsGoneWhole state layout unlinked number object)))) }
     ensures gone { IfOk result (λ gone. ForSome (F.told folder.old).files (λ from. IsOwnedBy found.now.entry owned.now from → ForEachParent key.now node found.now.entry found.now.before from (λ state layout unlinked number object. IsGroupTold state layout key.now gone))) }
     ensures session { OnOk result (ForSome (F.told folder.old).files (λ from. IsOwnedBy found.now.entry owned.now from → ForEachParent key.now node found.now.entry found.now.before from (λ state layout unlinked number object. ForSome (F.told folder.new).files (SameSession from)))) }
@@ -128,7 +128,7 @@ pub fn doom_parent<F: Folder>(
     requires is_open { ForSome (F.told folder.old).files (IsOpen files.now) }
 
     // Where there is such an object in a state that is kept, and `charge` is the cost of its main item, the state with it doomed is kept in the end, in the
-    // same session. How many parts went is told, and the sum of their costs.
+    // same session. The answer has how many parts went, and the sum of their costs.
     ensures doomed { OnOk result (ForSome (F.told folder.old).files (λ from. ForEachHeldParent key.now node found.now.entry found.now.before charge from (λ state layout unlinked number object. ForSome (F.told folder.new).files (IsHeldWhole state layout unlinked number object)))) }
     ensures gone { IfOk result (λ gone. ForSome (F.told folder.old).files (λ from. ForEachHeldParent key.now node found.now.entry found.now.before charge from (λ state layout unlinked number object. ArePartsTold state layout key.now gone))) }
     ensures session { OnOk result (ForSome (F.told folder.old).files (λ from. ForEachHeldParent key.now node found.now.entry found.now.before charge from (λ state layout unlinked number object. ForSome (F.told folder.new).files (SameSession from)))) }
@@ -153,7 +153,7 @@ pub fn doom_parent<F: Folder>(
     Ok(parts)
 }
 
-/// Reads the signature of the index of a parent, by two folder calls.
+/// Reads the generation of the index of a parent, by two folder calls.
 ///
 /// A failed check is one of `read`, or a third stream that begins otherwise than an index.
 pub fn read_signature<F: Folder>(

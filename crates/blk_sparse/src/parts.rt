@@ -25,11 +25,11 @@ use blk_ranges::child_name;
 pub(crate) struct ParentName<'a> {
     // The bytes of its key.
     pub(crate) key: &'a [u8],
-    // The signature of its parts.
+    // The generation of its parts.
     pub(crate) signature: i64,
 }
 
-// The record of a part of an object with a key and a signature, which is found by its name. The name is made in `buffer`.
+// The record of a part of an object with a key and a generation, which is found by its name. The name is made in `buffer`.
 pub(crate) fn find_part<F: Folder>(
     folder: &mut F,
     files: &BlockFiles,

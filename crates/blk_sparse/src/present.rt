@@ -28,7 +28,7 @@ use blk_stream::read;
 /// Reads the bytes of an object from an offset on up to the first that is not present, at most as many as `out` has. How
 /// many were read is given.
 ///
-/// Nothing is changed, and no part is used. The key is read from the parent's record into the front of `name`, and the
+/// Nothing is changed, and no part is accessed. The key is read from the parent's record into the front of `name`, and the
 /// names of the parts are made after the longest key.
 pub fn read_present<F: Folder>(
     folder: &mut F,

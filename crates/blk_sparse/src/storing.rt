@@ -27,7 +27,7 @@ use blk_disk::BlockFiles;
 use blk_io::{Fault, Folder};
 use blk_object::{count_more, count_rise};
 
-/// An object to which sparse data are written: its record, its node and the signature of its parts, which a plain one
+/// An object to which sparse data are written: its record, its node and the generation of its parts, which a plain one
 /// gets; and whether it is plain.
 #[derive(Clone, Copy, Debug)]
 pub struct Target {

@@ -36,7 +36,7 @@ fn lengths(f: &mut Mem) -> Result<[Option<u64>; 2], Failed> {
     Ok([f.length(FileId::Block(0))?, f.length(FileId::Block(1))?])
 }
 
-// Makes an object, and tells how many folder calls that took and whether a file grew.
+// Makes an object, and gives how many folder calls that took and whether a file grew.
 fn create_and_look(session: &mut Session, key: &[u8]) -> Result<(u64, bool), Fail> {
     let before = lengths(&mut session.f)?;
     let (_, calls) = create(session, 0, key)?;

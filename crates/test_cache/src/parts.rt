@@ -22,7 +22,7 @@ const NO_PART: u32 = 0;
 
 const TWO_PARTS: u32 = 3;
 
-// The key of the object, the signature of its index, and the cost of its main item.
+// The key of the object, the generation of its index, and the cost of its main item.
 const OBJECT: &[u8] = b"v";
 
 const SIGNATURE: i64 = 1;
@@ -32,7 +32,7 @@ const CHARGE: u64 = 8257;
 // The bytes of the longest key and of the longest name of a part.
 const NAME_BUFFER_LEN: usize = 65_564;
 
-// No number of a part was told yet, or the numbers of both parts were, in the order of the list.
+// No number of a part was given yet, or the numbers of both parts were, in the order of the list.
 const NONE: [u32; 3] = [9; 3];
 
 const BOTH: [u32; 3] = [9, 1, 0];
@@ -129,7 +129,7 @@ fn main_out(f: &mut Mem, files: &BlockFiles) -> Result<[u32; 2], Fault> {
     }
 }
 
-// Drops the parts of the object by its key, after its main item. Gives how many went, and the numbers that were told.
+// Drops the parts of the object by its key, after its main item. Gives how many went, and the numbers that were given.
 fn parts_dropped(f: &mut Mem) -> Result<(Gone, [u32; 3]), Fault> {
     let files = BlockFiles::load(f)?;
     main_out(f, &files)?;
@@ -140,7 +140,7 @@ fn parts_dropped(f: &mut Mem) -> Result<(Gone, [u32; 3]), Fault> {
     Ok((gone, told))
 }
 
-// Drops the parts of the object by its record, after its main item, and tells their numbers or not.
+// Drops the parts of the object by its record, after its main item, and gives their numbers or not.
 fn children_dropped(f: &mut Mem, telling: bool) -> Result<(u64, [u32; 3]), Fault> {
     let files = BlockFiles::load(f)?;
     let [entry, node] = main_out(f, &files)?;
@@ -163,7 +163,7 @@ fn children_dropped(f: &mut Mem, telling: bool) -> Result<(u64, [u32; 3]), Fault
     Ok((count, told))
 }
 
-// Removes the object with its parts, or dooms it. Gives what went, and the numbers that were told.
+// Removes the object with its parts, or dooms it. Gives what went, and the numbers that were given.
 fn whole_gone(f: &mut Mem, dooms: bool) -> Result<(Gone, [u32; 3]), Fault> {
     let files = BlockFiles::load(f)?;
     match find(f, &files, OBJECT, false) {

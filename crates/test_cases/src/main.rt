@@ -1,5 +1,5 @@
 //! Plays cases: folders in memory, the lines of sessions over them, what these print, and what is held then. The words name texts of cases,
-//! which docs/TESTING.md describes. Each case whose answers are others than it says is told, with the first line that differs.
+//! which docs/TESTING.md describes. Each case whose answers are others than it says is reported, with the first line that differs.
 #![tactic(auto)]
 
 mod numbers;

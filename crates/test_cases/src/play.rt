@@ -188,7 +188,7 @@ impl Play {
         self.f = again(f, steps);
     }
 
-    /// What a line needs before it is stopped: for a command the session.
+    /// What a line needs before a crash in it is tried: for a command the session.
     pub(crate) fn prepare(&mut self, line: &str) -> Result<(), Wrong> {
         if line.starts_with("$") {
             self.open()?;

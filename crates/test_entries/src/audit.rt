@@ -18,7 +18,7 @@ fn folder(alloc: Global) -> Result<Silent, Failed> {
     Ok(f)
 }
 
-// Writes the links of node n; its seal stays 0, so it checks.
+// Writes the links of node n; its checksum stays 0, and so absent.
 fn link(f: &mut Silent, n: u32, next: u32, prev: u32) -> Result<(), Failed> {
     write_word(f, FileId::Block(0), 8192 + 36 * u64::from(n) + 16, next)?;
     write_word(f, FileId::Block(0), 8192 + 36 * u64::from(n) + 20, prev)
@@ -91,7 +91,7 @@ fn a_walk_goes_along_the_completed_list(rt: HostRuntime) -> Result<(), Fail> {
     Ok(())
 }
 
-// Writes the hash and the next of the record at block n; its seal stays 0, so it checks.
+// Writes the hash and the next of the record at block n; its checksum stays 0, and so absent.
 fn chain(f: &mut Silent, n: u32, hash: u32, next: u32) -> Result<(), Failed> {
     write_word(f, FileId::Block(1), 8192 + 256 * u64::from(n), hash)?;
     write_word(f, FileId::Block(1), 8192 + 256 * u64::from(n) + 4, next)

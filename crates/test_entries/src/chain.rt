@@ -25,7 +25,7 @@ const TWINS: [&[u8]; 2] = [b"lniw", b"zrti"];
 // The words of three records.
 pub(crate) const WORDS: [u32; 3] = [0xA001_0000, 0xA001_0001, 0xA001_0002];
 
-// The flags of a plain entry and of a child.
+// The flags of a plain entry and of a part.
 pub(crate) const PLAIN: u32 = 0;
 
 const CHILD: u32 = 2;
@@ -121,7 +121,7 @@ fn words<F: Folder>(f: &mut F, key: &[u8], child: bool) -> Result<Option<(u32, u
     }
 }
 
-// Unlinks the record of a key that is no child's, and says whether there was one.
+// Unlinks the record of a key that is no part's, and says whether there was one.
 fn take<F: Folder>(f: &mut SilentFolder<F>, key: &[u8]) -> Result<bool, Fault> {
     let files = BlockFiles::load(f)?;
     match find(f, &files, key, false) {
@@ -243,7 +243,7 @@ fn records_of_other_hashes_are_passed_by_one_call_each(rt: HostRuntime) {
     assert_eq!(rt; calls_of_finding(rt.alloc()), Ok(8 + 1 + 2 + 2));
 }
 
-// What is found of a key: of a child where there is none, of a child, and of one that is none, with the
+// What is found of a key: of a part where there is none, of a part, and of an entry that is none, with the
 // folder calls that the last takes.
 fn with_child(alloc: Global) -> Result<(Three, u64), Fault> {
     let mut f = folder(alloc)?;
@@ -260,7 +260,7 @@ fn with_child(alloc: Global) -> Result<(Three, u64), Fault> {
 fn a_child_has_another_name(rt: HostRuntime) {
     let found = [None, Some((WORDS[1], 0)), Some((WORDS[0], WORDS[1]))];
 
-    // The child is passed by one call.
+    // The part's record is passed by one call.
     assert!(rt; with_child(rt.alloc()) == Ok((found, 8 + 1 + 1 + 2)));
 }
 
@@ -278,7 +278,7 @@ fn one(alloc: Global, next: u32) -> Result<Silent, Fault> {
     Ok(f)
 }
 
-// What is found of a key that is no child's, and the folder calls that it takes.
+// What is found of a key that is no part's, and the folder calls that it takes.
 fn counted(f: &mut Silent, key: &[u8]) -> Result<(Option<(u32, u32)>, u64), Fault> {
     let before = f.calls();
     let found = words(f, key, false)?;
@@ -360,7 +360,7 @@ fn a_word_that_names_no_record_is_a_damage(rt: HostRuntime) {
     assert!(rt; search(rt.alloc(), 0) == Ok((Ok(None), 8 + 1 + 1)));
 }
 
-// A search for the only key, in a record whose seal is 5.
+// A search for the only key, in a record whose checksum is 5.
 fn unsealed(alloc: Global) -> Result<Option<(u32, u32)>, Fault> {
     let mut f = one(alloc, 0)?;
     f.write_at(FileId::Block(1), 8192 + 92, &5u32.to_le_bytes())?;
@@ -390,7 +390,7 @@ fn unlinking_takes_effect_at_one_word(rt: HostRuntime) {
         assert!(rt; stopped_taking(rt.alloc(), 2, steps) == Ok((done, found)));
     }
 
-    // The seal of the record before, its next, and the seal.
+    // The checksum of the record before, its next, and the checksum.
     for key in 0..2usize {
         for steps in 0..4 {
             let found = if steps < 2 { WHOLE } else { WITHOUT[key] };

@@ -24,7 +24,7 @@ const NODE: u32 = 0x9000_0000;
 
 const NODE_AT: u64 = 8192;
 
-// The hashes of a node's first 32 bytes with the contents 0xA0010000: clean, and with the mark 7. They are
+// The hashes of a node's first 32 bytes with the contents 0xA0010000: clean, and with the dirty flag 7. They are
 // from a program of the published function.
 const CLEAN_SEAL: u32 = 0x84CC_AD46;
 
@@ -178,7 +178,7 @@ fn length(f: &mut Mem, word: u32) -> Result<u32, Fault> {
     }
 }
 
-// Marks the first node with a number, or clean with 0.
+// Sets the dirty flag of the first node to a number, or to 0 where it becomes clean.
 fn mark(f: &mut Mem, number: u32) -> Result<(), Fault> {
     let files = BlockFiles::load(f)?;
     match node_of(&files, NODE) {
@@ -208,13 +208,13 @@ fn folder_with(alloc: Global, long_key: u32, key: &[u8]) -> Result<Mem, Failed> 
     Ok(f)
 }
 
-// The mark and the seal of the first node.
+// The dirty flag and the checksum of the first node.
 fn node_words(f: &mut Mem) -> Result<[u32; 2], Failed> {
     let mark = word(f, FileId::Block(0), NODE_AT + 28)?;
     Ok([mark, word(f, FileId::Block(0), NODE_AT + 32)?])
 }
 
-// Marks the first node: the number of folder calls, and its words then.
+// Sets the dirty flag of the first node: the number of folder calls, and its words then.
 fn marked(f: &mut Mem, number: u32) -> Result<(u64, [u32; 2]), Fault> {
     let before = f.calls();
     mark(f, number)?;
@@ -228,7 +228,7 @@ fn a_node_is_marked_and_clean_again(rt: HostRuntime) -> Result<(), Fail> {
     let contents = 0xA001_0000u32.to_le_bytes();
     f.write_at(FileId::Block(0), NODE_AT + 24, &contents)?;
 
-    // Eight calls load the files, one reads the node, one writes the seal 0, and one the mark and the seal after it.
+    // Eight calls load the files, one reads the node, one writes the checksum 0, and one the dirty flag and the checksum after it.
     assert!(rt; marked(&mut f, 7) == Ok((8 + 1 + 2, [7, DIRTY_SEAL])));
     assert!(rt; marked(&mut f, 0) == Ok((8 + 1 + 2, [0, CLEAN_SEAL])));
     Ok(())
@@ -255,7 +255,7 @@ fn with_long_key(f: &mut Mem, long_key: u32, key: &[u8]) -> Result<[Option<Place
     ])
 }
 
-// The failed checks of a length that two blocks don't have, and of a seal that isn't the hash.
+// The failed checks of a length that two blocks don't have, and of a checksum that isn't the hash.
 fn with_wrong_words(f: &mut Mem) -> Result<[Option<Place>; 2], Failed> {
     let mut out = [0; 8];
     let length = found(piece(f, 0xA101_0000, 0, &mut out));
@@ -303,7 +303,7 @@ fn too_few_bytes_are_a_damage(rt: HostRuntime) -> Result<(), Fail> {
     Ok(())
 }
 
-// The failed checks of marking the first node and making it clean, and the number of folder calls.
+// The failed checks of making the first node dirty and of making it clean, and the number of folder calls.
 fn unmarked(f: &mut Mem) -> ([Option<Place>; 2], u64) {
     let before = f.calls();
     let damages = [found(mark(f, 7)), found(mark(f, 0))];
@@ -435,7 +435,7 @@ fn has_key(f: &mut Mem, long_key: u32, key: &[u8], out: &mut [u8]) -> Result<boo
     Ok(&*out == key && behind == [0] && place == [0; 160])
 }
 
-// The words of a record that is the first of its file, with the seal that its bytes have.
+// The words of a record that is the first of its file, with the checksum that its bytes have.
 fn wanted_record(long_key: u32, child: bool, key: &[u8]) -> [u8; 96] {
     let mut bytes = [0; 96];
     let mut record = EntryMut::new(&mut bytes);
@@ -551,7 +551,7 @@ fn halves(f: &mut Mem, entry: u32, out: &mut [u8]) -> Result<[usize; 2], Fault> 
     Ok([first, piece(f, entry, at, end)?])
 }
 
-// Whether an entry has its key, the front of it, and a key of another last byte, each with the number of folder calls.
+// Whether an entry has its key, a prefix of it, and a key of another last byte, each with the number of folder calls.
 fn counted_three(f: &mut Mem, entry: u32, key: &mut [u8]) -> Result<[(bool, u64); 3], Fault> {
     let same = counted_equals(f, entry, key)?;
     let front = &key[..key.len().saturating_sub(1)];

@@ -39,7 +39,7 @@ fn again(f: Silent, steps: u64) -> Silent {
     stopping(f.into_inner().into_inner(), steps)
 }
 
-// A folder with a file of nodes, none of them used; it isn't observable, so no contract tells what it holds.
+// A folder with a file of nodes, none of them used; it is opaque, so no contract says what it holds.
 fn folder(alloc: Global) -> Result<Silent, Failed> {
     let mut f = stopping(MemFolder::without_trail(alloc), u64::MAX);
     put_all(&mut f, [1024, 0, 0, 0])?;
@@ -94,7 +94,7 @@ struct Node {
     prev: u32,
 }
 
-// A node, where it checks.
+// A node, where its checksum matches or is absent.
 fn checked<F: Folder>(f: &mut F, word: u32) -> Result<Option<Node>, Fault> {
     let mut window = [0; NODE_LEN];
     read_exact(f, FileId::Block(0), place_of(word, 0), &mut window)?;
@@ -268,7 +268,7 @@ fn changes_take_few_calls(rt: HostRuntime) -> Result<(), Fail> {
     Ok(())
 }
 
-// The nodes from the head on, as far as each checks and has the one before it as its previous one, and then zeros.
+// The nodes from the head on, as far as each has a matching checksum or none, and the one before it as its previous one, and then zeros.
 fn walked<F: Folder>(f: &mut F) -> Result<[u32; 3], Fault> {
     let mut order = [0; 3];
     let mut word = read_word(f, FileId::Index, IndexHead::HEADS)?;

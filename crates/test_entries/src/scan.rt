@@ -82,7 +82,7 @@ fn put(f: &mut Mem, file: FileId, place: u64, at: u64, word: u32) -> Result<(), 
     f.write_at(file, place.wrapping_add(at), &word.to_le_bytes())
 }
 
-// Writes the index of a sparse entry or of a part, with the signature 1 and the key's length 1.
+// Writes the index of a sparse entry or of a part, with the generation 1 and the key's length 1.
 fn put_index(f: &mut Mem, file: FileId, place: u64) -> Result<(), Failed> {
     for (at, word) in [
         (0, 1u32),

@@ -1,4 +1,4 @@
-// A folder whose words are computed from their place, and that tells nothing.
+// An opaque folder, whose words are computed from their place.
 ghost use Rattle.spec_image.specs.Order.{IsAfter};
 ghost use Rattle.spec_image.specs.Told.{Rises};
 ghost use Rattle.blk_io.specs.FileNames.{file_of};

@@ -21,7 +21,7 @@ const A: u32 = 0xA001_0002;
 
 const NODE_OF_B: u32 = 0x9000_0001;
 
-// Their keys have different lengths, so that the bytes tell which are kept.
+// Their keys have different lengths, so that the bytes show which are kept.
 const THREE: [(u32, &[u8]); 3] = [(C, b"cccc"), (B, b"bb"), (A, b"a")];
 
 // A block that nobody owns.

@@ -92,7 +92,7 @@ const CHANGED: &[u8] =
 // The place of the session's number in the index.
 const THIS_ID: u64 = 20;
 
-// Whether the dirty word of the node that is first in the list is the number of the session; else it is 0.
+// Whether the dirty flag of the node that is first in the list is the number of the session; else it is 0.
 fn is_first_dirty<F: Folder>(f: &mut F) -> Result<bool, Fail> {
     let head = read_word(f, FileId::Index, HEAD)?;
     let (file, place) = place_of(head);

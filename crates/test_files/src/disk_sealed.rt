@@ -1,4 +1,4 @@
-// Sealed records in block files in memory.
+// Records with checksums, in block files in memory.
 use crate::disk::{folder_of, word_of};
 use blk_disk::BlockFiles;
 use blk_io::{Damage, Fault, FileId, Folder, MemFolder, SilentFolder};
@@ -69,7 +69,7 @@ fn an_updated_node_has_its_hash_as_seal(rt: HostRuntime) -> Result<(), Fail> {
     assert_eq!(rt; update_node(&mut f, LAST_NODE, NEW), Ok(true));
     assert_eq!(rt; word_of(&mut f, 0, NODE_AT + 32), Some(NEW_NODE_SEAL));
 
-    // Each update takes the eight calls that load the files, one read and four writes: the word at 28 and the seal after it
+    // Each update takes the eight calls that load the files, one read and four writes: the word at 28 and the checksum after it
     // go by one.
     assert_eq!(rt; f.calls(), 2 * (8 + 1 + 4) + 1);
     Ok(())
@@ -83,7 +83,7 @@ fn an_updated_entry_record_has_its_hash_as_seal(rt: HostRuntime) -> Result<(), F
     Ok(())
 }
 
-// Updates the last node in an opaque folder, once it has this seal and its file this length.
+// Updates the last node in an opaque folder, once it has this checksum and its file this length.
 fn update_broken(f: &mut SilentFolder<MemFolder>, seal: u32, length: u64) -> Result<bool, Fault> {
     let files = BlockFiles::load(f)?;
     let Some(addr) = files.node(LAST_NODE) else {
@@ -104,7 +104,7 @@ fn node_damage(at: u64, found: u32) -> Result<bool, Fault> {
 
 #[test]
 fn a_broken_record_is_not_updated(rt: HostRuntime) -> Result<(), Fail> {
-    // A wrong seal, and a file that ends inside the node.
+    // A wrong checksum, and a file that ends inside the node.
     let cases = [
         (1, SIZE as u64, node_damage(NODE_AT + 32, 1)),
         (0, NODE_AT + 35, node_damage(NODE_AT, 35)),
@@ -120,7 +120,7 @@ fn a_broken_record_is_not_updated(rt: HostRuntime) -> Result<(), Fail> {
     Ok(())
 }
 
-// Seals the last node.
+// Gives the last node its checksum.
 fn seal_last<F: Folder>(f: &mut F) -> Result<bool, Fault> {
     let files = BlockFiles::load(f)?;
     let Some(addr) = files.node(LAST_NODE) else {
@@ -134,7 +134,7 @@ fn seal_last<F: Folder>(f: &mut F) -> Result<bool, Fault> {
 fn a_record_is_sealed_by_one_word(rt: HostRuntime) -> Result<(), Fail> {
     let mut f = zeros(rt.alloc())?;
 
-    // The second time the seal is there, so nothing is written.
+    // The second time the checksum is there, so nothing is written.
     for _ in 0..2 {
         assert_eq!(rt; seal_last(&mut f), Ok(true));
         assert_eq!(rt; f.steps(), Some(1));

@@ -223,7 +223,7 @@ pub fn change_all<F: Folder>(f: &mut SilentFolder<F>, changes: &[Change]) -> Res
     Ok(())
 }
 
-/// Writes a sparse index of the signature 1 and of a key of so many bytes, with the bit of its first part or block.
+/// Writes a sparse index of the generation 1 and of a key of so many bytes, with the bit of its first part or block.
 pub fn put_index<F: Folder>(
     f: &mut SilentFolder<F>,
     index: u32,
@@ -234,7 +234,7 @@ pub fn put_index<F: Folder>(
     put_words(f, file, place.wrapping_add(64), &[1])
 }
 
-/// What the audit tells.
+/// What the audit finds.
 pub fn audited<F: Folder>(alloc: Global, f: &mut SilentFolder<F>) -> Result<Scan, ScanFault> {
     let files = BlockFiles::load(f)?;
     scan_files(alloc, f, &files)

@@ -10,7 +10,7 @@ use blk_scan::{Scan, scan_files};
 use std::alloc::Global;
 use std::test::Fail;
 
-// The folder of all kinds of entries: as it is made, where every seal is 0, or repaired once, where each is sealed.
+// The folder of all kinds of entries: as it is made, where every checksum is 0, or repaired once, where each record has its checksum.
 fn whole(alloc: Global, sealed: bool) -> Result<Mem, Fail> {
     let mut f = empty(alloc);
     make_all(alloc, &mut f)?;
@@ -27,7 +27,7 @@ pub fn changed(alloc: Global, sealed: bool, changes: &[Change], steps: u64) -> R
     Ok(again(f, steps))
 }
 
-/// Audits the folder and repairs it. Gives what was told before.
+/// Audits the folder and repairs it. Gives what the audit found.
 pub fn mend<F: Folder>(alloc: Global, f: &mut SilentFolder<F>) -> Result<Scan, ScanFault> {
     let mut files = BlockFiles::load(f)?;
     let scan = scan_files(alloc, f, &files)?;

@@ -22,7 +22,7 @@ pub const PUT_BACK: [&[Change]; 4] = [
     &[Index(4, FIRST), Index(12, 7), Index(48, 7), Index(52, 7)],
 ];
 
-/// Changes for which eleven of the twelve are dropped, each for a reason of its own. What is changed has no seal then.
+/// Changes for which eleven of the twelve are dropped, each for a reason of its own. What is changed has no checksum then.
 pub const MOST_REASONS: [Change; 21] = [
     Word(N[0], DIRTY, 1),
     Word(N[0], NODE_SEAL, 0),
@@ -48,7 +48,7 @@ pub const MOST_REASONS: [Change; 21] = [
 ];
 
 /// Changes after which repair crashes at each of its words: a removal in flight and a list whose last node points back; a move
-/// in flight, a record that doesn't check and a dirty parent; a record in two chains, and a node that isn't sealed; blocks that
+/// in flight, a record with a wrong checksum and a dirty parent; a record in two chains, and a node without a checksum; blocks that
 /// are used twice, in and out of a chain; an insertion in flight into a list without a head; an operation that doesn't count, a
 /// loop in a chain and one in the list; a file of records that is too short; files that nothing names; external files that are
 /// gone or too short, and another tail; the first version of the index, with any words where the sums of both are, an open session, a

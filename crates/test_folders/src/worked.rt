@@ -123,7 +123,7 @@ fn add_entry<F: Folder>(
     Ok(())
 }
 
-/// Makes a folder of all of them, in which every seal is 0.
+/// Makes a folder of all of them, in which every checksum is 0.
 pub fn make_all<F: Folder>(alloc: Global, f: &mut SilentFolder<F>) -> Result<(), Fail> {
     make(f, 7)?;
     give_blocks(f, 1024, [1024, 64, 16, 4])?;

@@ -101,7 +101,7 @@ fn an_object_is_made(rt: HostRuntime) -> Result<(), Fail> {
     assert!(rt; calls <= 70, "{calls} calls");
     assert_eq!(rt; counted(&mut f), Ok([1, 3, 1, 0x9000_0000]));
 
-    // Node, moment and length of the key in the record; moment, contents and mark in the node.
+    // Node, moment and length of the key in the record; moment, contents and dirty flag in the node.
     let [low, high] = MOMENT_WORDS;
     let record = words(&mut f, FileId::Block(1), [8200, 8216, 8220, 8224]);
     assert_eq!(rt; record, Ok([0x9000_0000, low, high, 3]));

@@ -88,7 +88,7 @@ pub(crate) fn no_entries(alloc: Global) -> Result<Mem, Fail> {
     Ok(f)
 }
 
-// A folder of all of the entries, in which every seal is 0.
+// A folder of all of the entries, in which every checksum is 0.
 pub(crate) fn all_entries(alloc: Global) -> Result<Mem, Fail> {
     let mut f = no_entries(alloc)?;
     give_blocks(&mut f, 1024, [1024, 64, 16, 4])?;
@@ -134,7 +134,7 @@ pub(crate) fn holds(alloc: Global, f: &mut Mem, text: &str) -> Result<bool, Fail
     Ok(out.written() == text.as_bytes())
 }
 
-// How a folder is verified where the sink fails at a call, and whether what was printed then is a prefix of this.
+// How a folder is verified where the output fails at a call, and whether what was printed then is a prefix of this.
 pub(crate) fn cut(
     alloc: Global,
     f: &mut Mem,

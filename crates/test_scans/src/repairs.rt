@@ -31,7 +31,7 @@ const NEXT_STEPS: u64 = 23;
 // found of them, their keys and their data in the order of the list.
 type Held = (u64, u64, u64);
 
-// What a folder holds of which this was told.
+// What a folder holds of which the audit found this.
 fn held(f: &mut Mem, scan: &Scan) -> Result<Held, ScanFault> {
     Ok((scan.items(), scan.bytes(), found(f, scan)?))
 }

@@ -147,7 +147,7 @@ fn doom_and_succeed(handles: &mut Handles) -> Option<[bool; 2]> {
     Some(doomed)
 }
 
-// Marks the record of object 2 as dirty by its first name, and gives the object by its other one.
+// Makes object 2 dirty by its first name, and gives the object by its other one.
 fn mark_by_another_name(handles: &mut Handles) -> Option<OpenObject> {
     handles.object(1)?;
     handles.mark(1, false, true);
@@ -162,7 +162,7 @@ fn release_both(handles: &mut Handles) -> Option<(Released, Released, [bool; 2])
     Some((second, first, pinned))
 }
 
-// Object 1 with one name, doomed, and object 2 with two, whose record is marked as dirty.
+// Object 1 with one name, doomed, and object 2 with two, which is dirty.
 fn doomed() -> OpenObject {
     OpenObject {
         entry: entry(1),
@@ -194,7 +194,7 @@ fn a_doomed_object_and_its_successor_are_open(rt: HostRuntime) -> Result<(), Fai
     Ok(())
 }
 
-// Binds a name, and tells the least one.
+// Binds a name, and gives the least that is free.
 fn least_with(handles: &mut Handles, name: u16) -> Option<u16> {
     bind(handles, name, 3)?;
     handles.least_name()

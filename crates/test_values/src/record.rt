@@ -100,7 +100,7 @@ fn the_lists_of_an_index_are_read(rt: HostRuntime) -> Result<(), Fail> {
     Ok(())
 }
 
-// The words at the front of the header of a block file, and its numbers.
+// The words at the start of the header of a block file, and its numbers.
 fn block_front_of(head: &BlockHead<'_>) -> ([u32; 5], u16, u16) {
     let words = [
         head.magic(),

@@ -152,7 +152,7 @@ fn a_field_of_a_node_is_lent(rt: HostRuntime) -> Result<(), Fail> {
     Ok(())
 }
 
-// The signature, the last block and the other words of a sparse index.
+// The generation, the last block and the other words of a sparse index.
 fn parts_of(head: &SparseHead<'_>) -> (i64, i32, [u32; 5]) {
     let words = [
         head.magic(),

@@ -19,7 +19,7 @@ is_some_and : {A : Type 0} (o : Option A) (v : A) → IsSomeAnd o (λ x. x ≡ v
 is_some_and None v is = absurd is
 is_some_and (Some x) v is = ap Some is
 
--- the command that was told is the program's
+-- the command whose arguments are read is the program's
 is_program : (c : After-try_get_matches_from) → app_of c.in_ok-command.command ≡ program
 is_program c =
     let max_is : rule_of c.action-max.result ≡ option_rule (codes "max") = search rules in

@@ -31,7 +31,7 @@ returns-then-range-eq0-clause-part g c image there p =
 pub returns-then-range-eq0-clause-untold : goal.returns-then-range-eq0-clause-untold
 returns-then-range-eq0-clause-untold g c has = c.print_range.ensures.untold (λ image there. let p = has image there in none-has c.args.files.now c.args.range.now image (c.requires.is_open image there).agrees (g.met.F.Folder.are_bytes c.args.folder.now image there) p c.if-range-eq0.true c.stream_range.result c.stream_range.ensures.entry c.stream_range.ensures.count)
 
--- The signature.
+-- The generation.
 
 pub read_signature-requires-clause-kind : goal.read_signature-requires-clause-kind
 read_signature-requires-clause-kind g c = let n = names-parts c.args.files.now c.args.range.now.entry c.requires.names in n.1.0

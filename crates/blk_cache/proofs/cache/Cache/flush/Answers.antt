@@ -29,7 +29,7 @@ returns-then-object-clause-does g c moment =
 pub returns-then-object-clause-stops : goal.returns-then-object-clause-stops
 returns-then-object-clause-stops g c moment = nothing-stops (HoldsState c.args.self.now) (says-kept c.args.self.now) (g.F.Folder.told c.args.folder.now) (g.F.Folder.told c.args.folder.now) moment (to_flush c.args.handle) refl
 
--- Settled.
+-- Clean.
 
 pub returns-in_err-set_dirty-clause-stops : goal.returns-in_err-set_dirty-clause-stops
 returns-in_err-set_dirty-clause-stops g c moment =

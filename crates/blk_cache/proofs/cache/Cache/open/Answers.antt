@@ -55,7 +55,7 @@ returns-in_default-2-clause-stops g c =
 pub returns-in_default-2-clause-is_open : goal.returns-in_default-2-clause-is_open
 returns-in_default-2-clause-is_open g c image now = c.requires.is_open image (ap (λ (t : Told). t.files) (sym c.in_ok-live.ensures.reads.stays) ∙ now)
 
--- The touch.
+-- The access.
 
 pub touch-requires-clause-is_open : goal.touch-requires-clause-is_open
 touch-requires-clause-is_open g c image now = c.requires.is_open image (ap (λ (t : Told). t.files) (sym c.in_ok-live.ensures.reads.stays) ∙ now)

@@ -42,7 +42,7 @@ returns-in-Refused-clause-stops g c =
 pub returns-in-Refused-clause-is_open : goal.returns-in-Refused-clause-is_open
 returns-in-Refused-clause-is_open g c = subst (λ (t : Told). ForSome t.files (IsOpen c.args.self.now.files)) (sym c.in_ok-asked.ensures.reads.stays) c.requires.is_open
 
--- The use.
+-- The access.
 
 pub use_item-requires-clause-stands : goal.use_item-requires-clause-stands
 use_item-requires-clause-stands g c = (subst (StandsAmong c.args.self.now.files c.args.stream) c.in-Stream.is c.in_ok-asked.ensures.stands).0

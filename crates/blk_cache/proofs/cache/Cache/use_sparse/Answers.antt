@@ -54,7 +54,7 @@ returns-in-Plain-clause-refuses g c =
     let inside = subst (FindsInside (early_sparse_refusal c.args.self.now.handles c.args.handle c.args.offset c.args.count) c.args.offset c.args.count) c.in-Plain.is c.in_ok-asked.ensures.inside in
     nothing-early c.args.self.now.handles c.args.handle c.args.offset c.args.count _ inside.passes
 
--- The use.
+-- The accesses.
 
 pub use_range-requires-clause-kind : goal.use_range-requires-clause-kind
 use_range-requires-clause-kind g c = (names-parts c.args.self.now.files c.in-Parent.parent.entry (subst (IsAmongFiles c.args.self.now.files) c.in-Parent.is c.in_ok-asked.ensures.stands).1.0).1.0
