@@ -24,7 +24,7 @@ use Rattle.blk_alloc.proofs.Remade.{one_more, others_kept, rebuilding_begin, reb
 use Rattle.spec_format.proofs.Growths.{grown_blocks}
 use Rattle.blk_alloc.proofs.Needed.{needed_end, needed_none, needed_part, needed_then, needed_weaker, passes_first}
 
--- what is told, of its two parts
+-- the ghost state of a folder, made of its two parts: files and write trace
 abbrev told_of : Option Image → Option Trail → Told
 told_of files trail = record { files = files; trail = trail }
 

@@ -80,7 +80,7 @@ module _ (p : ℕ → Bool) (g count : ℕ) (few : count ≤ 4) (some : 0 < coun
       go false false false true e f h k = above true 1 refl k
       go false false false false e f h k = some
 
-  -- a place at the front of a group is a run of it
+  -- a place at the start of a group is a run of it
   pub longer : is_place p count (4 * g) ≡ true → count ≤ longest_run p g
   unfolding longest_run has_run is_place
   longer is =
@@ -133,7 +133,7 @@ longest_most p g = go (has_run p g 4) (has_run p g 3) (has_run p g 2) (has_run p
     go false false false true = omega arith
     go false false false false = omega arith
 
--- where true counters count no run of so many blocks, no group has them at its front
+-- where true counters count no run of so many blocks, no group has them at its start
 pub none_at_front : (image : Image) (n count g : ℕ) → count ≤ 4 → 0 < count → EmptyAgrees image n → HasNoRoom image count n → g < groups_of (max_entries_in image n) → is_place (is_block_marked image n) count (4 * g) ≡ false
 unfolding EmptyAgrees groups_with
 none_at_front image n count g few some agrees none there = is_false (is_place p count (4 * g)) never

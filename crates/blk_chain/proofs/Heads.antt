@@ -51,7 +51,7 @@ shown-names files image w fields agrees here =
     is_two : (k : ℕ) → k ≡ 2 → (k == 2) ≡ true
     is_two k e = rw e refl
 
--- a record that a search meets checks in its bytes
+-- the bytes of a record that a search meets have a checksum that matches or is absent
 pub keyed-checks : (image : Image) (w : ℕ) → AreBytes image → IsKeyed w image → RecordChecks w image
 keyed-checks image w bytes keyed =
     record_checks image w bytes (shown-kind image w keyed.fields keyed.here) (ap (λ (c : RecordFields). c.checks) (shown-fields image w keyed.fields keyed.here) ∙ keyed.good)
@@ -118,7 +118,7 @@ pub sought-named : (image : Image) (w : ℕ) → IsKeyed w image → (key : List
 sought-named image w keyed key is_child sought =
     to-name image w keyed key is_child (record { hash = sought.bytes.hash; is = (key_by_bytes image w key (shown-kind image w keyed.fields keyed.here) keyed.key).0 sought.bytes.bytes }) sought.flag
 
--- two truths that are told apart, and two that are not
+-- two truths that differ, and two that don't
 pub differs : (a b : Bool) → not (beq a b) ≡ true → a ≡ b → ⊥
 differs a b apart same = by b (subst (λ (x : Bool). not (beq x b) ≡ true) same apart)
   where

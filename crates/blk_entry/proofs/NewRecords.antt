@@ -43,7 +43,7 @@ with_words-more ws i d bytes within = ap (λ (l : List (ℕ × ℕ)). with_words
 -- An entry record without streams.
 
 module _ (h next node moment key_len long_key flags : ℕ) where
-  -- before it is sealed
+  -- the new record before it gets its checksum
   unfoldable pub plain_record : Entry
   plain_record = record {
     hash = h;

@@ -47,7 +47,7 @@ pub(crate) fn length_in(files: &[MemFile], file: FileId) -> Option<u64>
     }
 }
 
-// Moves the bytes from a place on into the front of `out`, as many as there are.
+// Moves the bytes from a place on into a prefix of `out`, as many as there are.
 pub(crate) fn copy_front(bytes: &[u8], at: u64, out: &mut [u8]) -> usize
     ensures within { result ≤ length out.old }
     ensures count { result ≡ min (length out.old) (length bytes.now - at) }

@@ -17,7 +17,7 @@ use Rattle.blk_lru.specs.Nodes.{link_at}
 use Rattle.blk_lru.proofs.Listed.{linked, splits}
 use Rattle.blk_lru.proofs.NodeWords.{checked_names, stands_as_node, next_link, prev_link}
 
--- what is told stays
+-- where the folder stays as it is, what holds of its observed files stays
 pub told_stays : {a m : Told} (P : Image → Type 0) → m ≡ a → ForSome a.files P → ForSome m.files P
 told_stays P stays holds = subst (λ (t : Told). ForSome t.files P) (sym stays) holds
 

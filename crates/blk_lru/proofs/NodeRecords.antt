@@ -1,4 +1,4 @@
--- A node that checks, as a record of bytes.
+-- A node whose checksum matches or is absent, as a record of bytes.
 use Rattle.std.proofs.Common.{◌≡◌, ℕ, ◌+◌, ◌≤◌, Bool, true, false, if◌then◌else◌, None, Some, List, refl, ap, sym, ◌∙◌, subst, arith}
 use Rattle.spec_image.specs.Bytes.{content, word_at, range_at}
 use Rattle.spec_image.specs.Image.{Block, Image, AreBytes, byte}
@@ -45,7 +45,7 @@ pub found_none : (files : BlockFiles) (image : Image) (w : ℕ) → is_node_amon
 unfolding list_among
 found_none files image w none = rw none refl
 
--- a node's record that checks says that the node does
+-- where the checksum of a node's record matches or is absent, that is so in the list's view of the node
 pub checks_back : (files : BlockFiles) (image : Image) (w : ℕ) → Agrees files image → AreBytes image → is_node_among files w ≡ true → RecordChecks w image → (list_of image).checks w ≡ true
 unfolding list_of checks_at
 checks_back files image w agrees small is good =

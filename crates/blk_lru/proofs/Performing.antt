@@ -18,7 +18,7 @@ use Rattle.blk_lru.specs.declared.writes.Write.{Write}
 use Rattle.blk_lru.proofs.Kept.{kept_writes}
 use Rattle.blk_disk.specs.Open.{IsOpen}
 
--- what a folder tells before writes: bytes alone, with a whole index and the block files that are kept
+-- an observable folder before writes: its files have bytes alone, the index is whole, and the headers agree with the table
 pub record IsReady (files : BlockFiles) (image : Image) : Type 0 where
   pub kept : IsOpen files image
   pub bytes : AreBytes image
@@ -102,7 +102,7 @@ first_words : (xs ys : List ListWrite) → AllWriteWords (xs ++ ys) → AllWrite
 first_words [] ys h = tt
 first_words (x ∷ xs) ys h = (h.0, first_words xs ys h.1)
 
--- all of the writes, in front of others
+-- where some writes and then others can be made, the others can be made after the first ones
 split_can : (from : Image) (xs ys : List ListWrite) → IsWritable from → CanBeMade from (xs ++ ys) → CanBeMade (after (steps_of_writes xs from) from) ys
 split_can from [] ys is all = all
 split_can from (x ∷ xs) ys is all =

@@ -28,10 +28,9 @@ use blk_record::{NodeView, WORD_VALUES};
 
 /// Puts a node in front of the list. It is not in the list, and fewer than 131072 nodes are.
 ///
-/// The operation word and the transaction word are written, then the node's links, the link of the node that was first,
-/// or the last node where there was none, and the first node; at last the transaction ends. Of a node that is written
-/// the seal is 0 first and the hash again in the end. A head that is neither 0 nor the address of a node that is there
-/// is corruption, and so is a node that is to be written and doesn't check. This takes at most 17 folder calls.
+/// The operation word and the transaction word are written, then the node's links, the link of the node that was first, or the last node where there was none,
+/// and the first node; at last the transaction ends. The checksum of a node that is written is 0 first and the hash again in the end. A head that is neither 0
+/// nor the address of a node that is there is corruption, and so is a wrong checksum of a node that is to be written. This takes at most 17 folder calls.
 pub fn insert_front<F: Folder>(f: &mut F, files: &BlockFiles, node: Addr) -> Result<(), Fault>
     requires stands { IsTrue (is_node_among files.now node) }
     requires is_open { ForSome (F.told f.old).files (IsOpen files.now) }

@@ -8,7 +8,7 @@ use Rattle.spec_image.proofs.Splices.{spliced-is, content-spliced_inside}
 use Rattle.spec_image.proofs.Words.{word-there, word-beside, word-other}
 use Rattle.blk_record.specs.Fields.{OtherFieldsStay, WrittenWordsAreRead, WrittenFieldsLeaveOthers}
 
--- a window with a word is its front, the four bytes of the word, and the rest
+-- a window with a word is its prefix, the four bytes of the word, and the rest
 with_word-is : (place value : ℕ) (window : List ℕ) → place + 4 ≤ length window → with_word place value window ≡ take place window ++ (word_bytes value ++ drop (place + 4) window)
 unfolding with_word
 with_word-is place value window enough = spliced-is place (word_bytes value) window enough

@@ -296,7 +296,7 @@ pub bytes_at : (image : Image) (entry i size w : ℕ) → size ≡ size_word ima
 unfolding stream_bytes
 bytes_at image entry i size w is word = λ j. data_at image (sym word j) 0 (sym is j)
 
--- an answer that is right wherever files are told is corruption only where none are
+-- where an answer is Ok for each observable folder, only an opaque folder gives corruption
 pub damaged_never : {A : Type 0} (r : Result A Fault) (files : Option Image) → ((image : Image) → files ≡ Some image → IsOk r) → IfDamaged r (λ _. files ≡ None)
 damaged_never (Ok a) files right = tt
 damaged_never (Err Device) files right = tt
