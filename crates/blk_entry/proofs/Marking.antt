@@ -1,4 +1,4 @@
--- The dirty word of a node at each moment of its change, and after it.
+-- The dirty flag of a node at each moment of its change, and after it.
 use Rattle.std.proofs.Common.{◌≡◌, ◌≢◌, inl, inr, ⊎_elim, ℕ, ◌+◌, ◌*◌, ◌%◌, ◌^◌, ◌<◌, ◌≤◌, [], take, refl, sym, ◌∙◌, ap, ap₂, subst, true, arith}
 use Rattle.std.proofs.lemmas.List.Elements.{All-nil, All-cons}
 use Rattle.spec_image.specs.Bytes.{content, word_at, long_at, range_at}

@@ -45,7 +45,7 @@ pub fn set_clean<F: Folder>(f: &mut F, files: &BlockFiles, node: Addr) -> Result
     set_dirty_word(f, files, node, 0)
 }
 
-// Makes the dirty word of a node this one.
+// Sets the dirty flag of a node to this word.
 fn set_dirty_word<F: Folder>(
     folder: &mut F,
     files: &BlockFiles,

@@ -16,7 +16,7 @@ pub struct Identity {
 }
 
 impl Identity {
-    /// The file that the machine told this of.
+    /// The identity of the file that has this metadata.
     pub fn of(metadata: &Metadata) -> Self {
         Identity {
             is_regular: metadata.is_file(),

@@ -63,7 +63,7 @@ pub(crate) fn copy_front(bytes: &[u8], at: u64, out: &mut [u8]) -> usize
     n
 }
 
-// Moves bytes of a file into the front of `out`, as many as there are.
+// Moves bytes of a file into a prefix of `out`, as many as there are.
 pub(crate) fn read_in(files: &[MemFile], file: FileId, at: u64, out: &mut [u8]) -> usize
     ensures within { result ≤ length out.old }
     ensures bytes { GivesBytes (image_of files.now) (file_of file) at out.old out.new result }

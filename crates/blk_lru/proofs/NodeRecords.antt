@@ -16,7 +16,7 @@ use Rattle.blk_lru.specs.Nodes.{link_at, list_among, FindsNode}
 use Rattle.blk_lru.proofs.NodeWords.{node_kind, stands_as_node}
 use Rattle.blk_lru.proofs.Flights.{next_among, prev_among}
 
--- a node whose bytes were read checks where they do
+-- the checksum of a node whose bytes were read matches or is absent where that is so in them
 module _ (files : BlockFiles) (image : Image) (w : ℕ) (bytes : List ℕ) (small : AreBytes image) (is : is_node_among files w ≡ true) (read : bytes ≡ range_at (byte image (Block (file_selector w))) (place w + 0) 36) where
   bytes_are : bytes ≡ record_at image w
   bytes_are = record_read image w 36 bytes (sym (node_bytes w (node_kind files w is))) read

@@ -7,7 +7,7 @@ ghost use Rattle.blk_verdict.specs.Reasons.{reason_number};
 pub enum Reason {
     /// The node names no record that is there.
     Contents = 1,
-    /// The record does not check.
+    /// The record has a wrong checksum.
     Seal = 2,
     /// It is not in the state of a live entry.
     State = 3,
