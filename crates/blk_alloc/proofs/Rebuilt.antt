@@ -115,7 +115,7 @@ module _ (a b : Told) (old mid : BlockFiles) (claims : Claims) (n : ℕ) (before
         let here = right n among in
         clean from (ap (λ (t : Told). t.files) same ∙ there) (long_still old mid n before.fitted here.0) here.1 ∙ same
 
-    -- and is rebuilt
+    -- the next file is rebuilt
     pub next_rebuilt : (new : BlockFiles) → (b.files ≡ None → c.files ≡ None) → ForSome c.files (λ image. IsRebuilt claims image n) → Resizes mid new n (max (length_in mid n) (whole_length mid n)) → ForSome c.files (Agrees new) → ForSome b.files (λ from. HasItsBlocks mid n → IsRebuilt claims from n → Stays b c) → HasRebuilt a c old new claims (n + 1)
     next_rebuilt new silent done resizes agrees clean = record {
       rebuilt =

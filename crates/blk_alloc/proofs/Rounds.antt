@@ -76,7 +76,7 @@ module _ (marked : ℕ → Bool) (words hint run : ℕ) (some : 0 < words) where
         λ (e : longest_run marked (p % groups) ≡ run). before j (from j (omega (arith, is, low))) less (ap (longest_run marked) (sym met) ∙ e))
         (cases_lt p (8 * (start / 8 + turn)))
 
-    -- it is met within one round
+    -- a group of a word is met within one round
     within : p0 < start + groups
     within =
         ⊎_elim (λ (h : p0 < start + groups). h)

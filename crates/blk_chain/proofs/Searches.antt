@@ -109,7 +109,7 @@ module _ (image : Image) (key : List ℕ) (is_child : Bool) where
             key = can.keys word (subst (λ (words : List ℕ). is_among words word ≡ true) (sym all-here) (middle-there way.passed word next.suffix));
           }
 
-      -- it is passed where it has another name
+      -- the record is passed where it has another name
       pub way-on : (link : ℕ) (fewer : ℕ) → link ≡ (store_of image).chain_next word → (HasKey (store_of image) key is_child word → ⊥) → fewer + 1 ≡ left → IsOnTheWay key is_child link (Some word) fewer image
       way-on link fewer follows other less = record {
         passed = way.passed ++ word ∷ [];
@@ -124,7 +124,7 @@ module _ (image : Image) (key : List ℕ) (is_child : Bool) where
         few = let few = way.few in let size : length way.rest ≡ suc (length next.suffix) = ap length next.is in omega (arith, few, size, less);
       }
 
-      -- it is found where it has the name
+      -- the record is found where it has the name
       pub way-found : HasKey (store_of image) key is_child word → IsFound key is_child word before image
       way-found named =
           let place = ends way.passed before next.suffix (chained_for (store_of image) key) word way.last all-here in

@@ -114,7 +114,7 @@ module _ (files : BlockFiles) (w : ℕ) (changes : List (ℕ × ℕ)) (stands : 
 pub seal_is : (w kind seal : ℕ) (bytes : List ℕ) (changes : List (ℕ × ℕ)) → kind ≡ kind_of w → seal ≡ seal_of (seal_by_kind kind) (with_words changes bytes) → seal ≡ seal_of (seal_place w) (with_words changes bytes)
 seal_is w kind seal bytes changes is_kind is = is ∙ ap (λ (k : ℕ). seal_of (seal_by_kind k) (with_words changes bytes)) is_kind
 
--- is the one of the image whose record they are
+-- the checksum that was found for a record's bytes is the one of the image that has them
 pub seal_from : (image : Image) (w seal : ℕ) (bytes : List ℕ) (changes : List (ℕ × ℕ)) → bytes ≡ record_at image w → seal ≡ seal_of (seal_place w) (with_words changes bytes) → seal ≡ new_seal image w changes
 unfolding new_seal
 seal_from image w seal bytes changes read is = is ∙ ap (λ (b : List ℕ). seal_of (seal_place w) (with_words changes b)) read

@@ -66,7 +66,7 @@ pub data_in_external : (image : Image) (w at n : ℕ) → kind_of w ≡ external
 unfolding data_file data_start
 data_in_external image w at n is there = rw is (⊎_elim (λ (h : at + n ≤ length_of image (External (external_number w))). inl (omega (arith, h))) (λ (none : n ≡ 0). inr none) there)
 
--- and their range
+-- the range of bytes that are in a file
 pub range_of_blocks : (w at n : ℕ) → kind_of w ≢ external → range (Block (file_selector w)) (place w + at) n ≡ data_range w at n
 unfolding data_range data_file data_start
 range_of_blocks w at n block_kind = let t : (kind_of w == external) ≡ false = grind (arith, nat_tests) in rw t refl

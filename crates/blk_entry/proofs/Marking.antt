@@ -97,7 +97,7 @@ node_good image w mark below standing kind good =
     let sound : node_checks (node_at image w) ≡ true = node-checks image image w (dirty_change mark) below (moment_before w image (dirty_change mark) good) kind in
     record { good = rw (st, sound) refl; bytes = below }
 
--- what it says
+-- what a node that is there says
 node_says : (image : Image) (w : ℕ) → stands_in image w ≡ true → kind_of w ≡ rankings → (store_of image).node_fields w ≡ Some (record { contents = (node_at image w).contents; dirty = (node_at image w).dirty })
 unfolding store_of node_fields_at
 node_says image w standing kind = let st : stands_as image rankings w ≡ true = stands_as_kind image w rankings standing kind in rw st refl

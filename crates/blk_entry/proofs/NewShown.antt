@@ -78,7 +78,7 @@ pub flags_is : (new : NewEntry) (key : List ℕ) (moment : ℕ) → (new_record 
 unfolding new_record
 flags_is new key moment = refl
 
--- its long key and its streams
+-- the record's long key and its streams
 others_are : (new : NewEntry) (key : List ℕ) (moment : ℕ) → (new_record new key moment).long_key ∷ (new_record new key moment).data_addr ≡ unwrap_or new.long_key 0 ∷ 0 ∷ 0 ∷ 0 ∷ 0 ∷ []
 unfolding new_record
 others_are new key moment = refl

@@ -8,10 +8,10 @@ use std::os::unix::fs::MetadataExt;
 #[derive(Clone, Copy)]
 pub struct Identity {
     is_regular: bool,
-    // How many names it has.
+    // How many names the file has.
     links: u64,
     device: u64,
-    // Its number on the device.
+    // The number of the file on the device.
     number: u64,
 }
 

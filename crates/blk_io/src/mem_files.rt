@@ -15,9 +15,9 @@ use std::alloc::{AllocError, Global};
 /// A file and its bytes.
 #[derive(Drop)]
 pub struct MemFile {
-    /// Its name.
+    /// The name of the file.
     pub file: FileId,
-    /// What it holds.
+    /// The bytes of the file.
     pub bytes: Vec<u8>,
 }
 

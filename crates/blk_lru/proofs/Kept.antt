@@ -56,7 +56,7 @@ module _ (files : BlockFiles) where
   kept_write (Transaction x) image kept = kept_index IndexHead.TRANSACTION x image kept
   kept_write (Operation x) image kept = kept_index IndexHead.OPERATION x image kept
 
-  -- and writes
+  -- writes of the list
   pub kept_writes : (writes : List ListWrite) (image : Image) → IsOpen files image → Along (IsOpen files) image (steps_of_writes writes image)
   kept_writes [] image kept = kept
   kept_writes (write ∷ writes) image kept =

@@ -40,7 +40,7 @@ module _ (files : BlockFiles) (image : Image) (w : ℕ) (bytes : List ℕ) (smal
   pub found_in : FindsNode (list_among files image) w (if checks 32 bytes then Some (record { node = w; next = word_at (content bytes) 16; prev = word_at (content bytes) 20 }) else None)
   found_in = by_check (checks 32 bytes) refl
 
--- and a word that names no node finds none
+-- a word that names no node finds none
 pub found_none : (files : BlockFiles) (image : Image) (w : ℕ) → is_node_among files w ≡ false → (list_among files image).checks w ≡ false
 unfolding list_among
 found_none files image w none = rw none refl

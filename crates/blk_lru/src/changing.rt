@@ -35,7 +35,7 @@ pub fn insert_front<F: Folder>(f: &mut F, files: &BlockFiles, node: Addr) -> Res
     requires stands { IsTrue (is_node_among files.now node) }
     requires is_open { ForSome (F.told f.old).files (IsOpen files.now) }
 
-    // Where it succeeds each node that was written checked.
+    // Where the call succeeds, the checksum of each node that was written matched or was absent.
     ensures checked { OnOk result (ForSome (F.told f.old).files (λ from. CanBeMade from (writes_of insert node (list_of from)))) }
     ensures inserted { OnOk result (ForSome (F.told f.old).files (λ from. CanBeInserted (list_of from) (walked from) node → ForSome (F.told f.new).files (HasListAtRest (node ∷ walked from)))) }
     ensures sealed { OnOk result (ForSome (F.told f.old).files (λ from. ForSome (F.told f.new).files (Seals from (writes_of insert node (list_of from))))) }
@@ -68,7 +68,7 @@ pub fn remove<F: Folder>(f: &mut F, files: &BlockFiles, node: Addr) -> Result<()
     requires stands { IsTrue (is_node_among files.now node) }
     requires is_open { ForSome (F.told f.old).files (IsOpen files.now) }
 
-    // Where it succeeds the node and both that its links name checked.
+    // Where the call succeeds, the checksums of the node and of both nodes that its links name matched or were absent.
     ensures checked { OnOk result (ForSome (F.told f.old).files (λ from. HasGoodLinks (list_of from) node)) }
     ensures removed { OnOk result (ForSome (F.told f.old).files (λ from. (prefix suffix : List ℕ) → HasListAtRest (prefix ++ node ∷ suffix) from → ForSome (F.told f.new).files (HasListAtRest (prefix ++ suffix)))) }
     ensures sealed { OnOk result (ForSome (F.told f.old).files (λ from. ForSome (F.told f.new).files (Seals from (writes_of removal node (list_of from))))) }
@@ -102,7 +102,7 @@ pub fn touch<F: Folder>(f: &mut F, files: &BlockFiles, node: Addr, moment: u64) 
     requires stands { IsTrue (is_node_among files.now node) }
     requires is_open { ForSome (F.told f.old).files (IsOpen files.now) }
 
-    // Where it succeeds, each node that was written had a right or absent checksum, and so had both neighbours of a node that wasn't the first.
+    // Where the call succeeds, each node that was written had a right or absent checksum, and so had both neighbours of a node that wasn't the first.
     ensures checked { OnOk result (ForSome (F.told f.old).files (λ from. CanBeTouched from node)) }
     ensures touched { OnOk result (ForSome (F.told f.old).files (λ from. (prefix suffix : List ℕ) → HasListAtRest (prefix ++ node ∷ suffix) from → ForSome (F.told f.new).files (HasListAtRest (node ∷ prefix ++ suffix)))) }
     ensures times { OnOk result (ForSome (F.told f.old).files (λ _. ForSome (F.told f.new).files (AreTimes node moment))) }

@@ -45,7 +45,7 @@ pub enum Write {
     Operation(u32),
 }
 
-// Makes writes one after the other, whose nodes are valid. Each node is checked before it is written.
+// Makes these writes, whose nodes are valid, one after the other. Each node's checksum is checked before the node is written.
 pub(crate) fn perform<F: Folder>(
     folder: &mut F,
     files: &BlockFiles,

@@ -56,8 +56,7 @@ pub fn repair<F: Folder>(f: &mut F, files: &mut BlockFiles, scan: &Scan) -> Resu
     // found.
     ensures mended { OnOk result (ForSome (F.told f.old).files (λ from. IsRepairable scan.now from → ForSome (F.told f.new).files (IsRepaired from))) }
 
-    // Where it is cut short the crash word wasn't written, or it was by the last step, and all is repaired as at its
-    // end.
+    // Where the recovery is cut short, the crash word wasn't written, or the last step wrote it, and all is repaired as at the end.
     ensures stops { ForSome (F.told f.old).files (λ from. IsRepairable scan.now from → EndsOrBreaksOff (F.told f.old) (F.told f.new) (IsMidRepair from) (IsRepaired from)) }
 
     // The steps are those of the parts, in their order; the last makes the crash word 1, and no other writes inside it.
