@@ -23,7 +23,7 @@ pub first_block_small : (w : ℕ) → first_block w < 65536
 unfolding first_block
 first_block_small w = omega arith
 
--- so the blocks of an address end at 65536
+-- the blocks of an address end at 65536 at most
 pub blocks_of_address : (w : ℕ) → IsTrue (is_address w) → kind_of w ≢ external → first_block w + block_count w ≤ 65536
 blocks_of_address w h blocks = omega (arith, group_of_address w h blocks, first_block_small w)
 

@@ -24,7 +24,7 @@ has_bit-append-zeros xs k n = ap (λ byte. bit_at byte (n % 8) == 1) (get_or-app
 abbrev with_bit : List ℕ → ℕ → ℕ → List ℕ
 with_bit xs n byte = set xs (n / 8) (bit_or byte (1 * 2 ^ (n % 8) % 256))
 
--- its number is then in the set
+-- once a bit is set in its byte, its number is in the set
 has_bit-with_bit-same : (xs : List ℕ) (n byte : ℕ) → n / 8 < length xs → has_bit (with_bit xs n byte) n ≡ true
 unfolding has_bit
 has_bit-with_bit-same xs n byte inside =
@@ -32,7 +32,7 @@ has_bit-with_bit-same xs n byte inside =
     let same : bit_at (bit_or byte (1 * 2 ^ (n % 8) % 256)) (n % 8) ≡ 1 = bit_at_set_same w8 byte (n % 8) (omega arith) in
     ap (λ word. bit_at word (n % 8) == 1) here ∙ ap (λ bit. bit == 1) same
 
--- and no other number changes
+-- once a bit is set in its byte, no other number changes
 has_bit-with_bit-other : (xs : List ℕ) (n m byte : ℕ) → n / 8 < length xs → byte ≡ get_or xs (n / 8) 0 → m ≢ n
     → has_bit (with_bit xs n byte) m ≡ has_bit xs m
 unfolding has_bit
@@ -52,7 +52,7 @@ has_bit-with_bit-other xs n m byte inside is other =
           ap (λ word. bit_at word (m % 8) == 1) (get_or-set_other xs (n / 8) (m / 8) (bit_or byte (1 * 2 ^ (n % 8) % 256)) 0 apart.1)
     ]
 
--- so its number is added
+-- once a bit is set in its byte, its number is added to the set
 pub has_bit-with_bit : (xs : List ℕ) (n m byte : ℕ) → n / 8 < length xs → byte ≡ get_or xs (n / 8) 0
     → has_bit (set xs (n / 8) (bit_or byte (1 * 2 ^ (n % 8) % 256))) m ≡ (m == n || has_bit xs m)
 has_bit-with_bit xs n m byte inside is =
@@ -94,7 +94,7 @@ unfolding bits_below
 bits_below-kept old new zero keeps = omega arith
 bits_below-kept old new (suc limit) keeps = grind (arith, bits_below-kept old new limit keeps, keeps limit)
 
--- and with one number more it has more
+-- a set that keeps its numbers and gains one has more
 pub bits_below-more : (old new : List ℕ) (limit k : ℕ) → ((m : ℕ) → has_bit old m ≡ true → has_bit new m ≡ true)
     → k < limit → has_bit old k ≡ false → has_bit new k ≡ true → bits_below old limit + 1 ≤ bits_below new limit
 unfolding bits_below

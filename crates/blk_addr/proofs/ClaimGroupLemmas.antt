@@ -72,7 +72,7 @@ others_free old new w words free adds =
     ∙ list_any-or (has_claim (claims_of w)) (contains_claim old) (claims_of_all words)
     ∙ ap₂ (λ (a b : Bool). a || b) (apart_back (claims_of_all words) (claims_of w) free.apart) free.others)
 
--- and where the set is the same
+-- the others are free where the set is the same
 pub still_free : (old new : Claims) (w : ℕ) (words : List ℕ) → IsFirstFree old w words → IsUnchanged old new → are_free new words ≡ true
 still_free old new w words free same = from_parts new words free.once (list_any-same (contains_claim new) (contains_claim old) same.claims (claims_of_all words) ∙ free.others)
 

@@ -1,4 +1,4 @@
-// Addresses that are claimed together, or not at all.
+// Addresses whose blocks and files become used together, or not at all.
 ghost use Rattle.std.specs.Prelude.{◌≡◌, ℕ, ◌≤◌, ◌++◌, ◌||◌, List, [], true, false, not, vec_len, IfOk, OnOk, OnErr, if◌then◌else◌};
 ghost use Rattle.std.specs.List.{list_any};
 ghost use Rattle.spec_format.specs.Claims.{claims_of_all, overlap, repeats};
@@ -11,7 +11,7 @@ impl Claims {
     ghost use Rattle.blk_addr.specs.ClaimGroups.{AddsAll, are_free};
     ghost use Rattle.blk_addr.specs.Claims.{IsClaimsOf, IsUnchanged, is_added, is_claimed};
 
-    /// Whether these addresses may be claimed: none uses a block or an external number that is used already, and no two of them use the same one. Each two of
+    /// Whether these addresses may be added: none uses a block or an external number that is used already, and no two of them use the same one. Each two of
     /// them are compared.
     pub fn are_free(&self, addrs: &[Addr]) -> bool
         ensures test { result ≡ are_free self.now addrs.now }
@@ -27,8 +27,8 @@ impl Claims {
         addrs.iter().any(|addr| self.has(*addr))
     }
 
-    /// Claims these addresses, all or none: where a block or an external number of one is used already, or two of them use the same one, nothing changes. Tells
-    /// whether they were claimed.
+    /// Makes the blocks and files of these addresses used, of all or of none: where a block or an external number of one is used already, or two of them use
+    /// the same one, nothing changes. The answer is whether they were added.
     pub fn add_all(&mut self, addrs: &[Addr]) -> Result<bool, NoMemory>
         ensures told { IfOk result (λ added. added ≡ are_free self.old addrs.now) }
         ensures added { result ≡ Ok true → AddsAll self.old self.new addrs.now }

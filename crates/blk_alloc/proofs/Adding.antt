@@ -120,7 +120,7 @@ module _ (old new : BlockFiles) (from mid : Image) (kind n last : ℕ) (free : i
     empty = λ was i small. empty_kept f there i ∙ was i small ∙ (λ j. groups_with (λ b. sym (join_widens.marks f b there) j) (groups_of (sym (blocks_kept f there) j)) (i + 1));
   }
 
-  -- it is among all files as it was
+  -- a file that was in the tables is still in them
   pub all_kept : (f : ℕ) → is_among (all_files old) f ≡ true → is_among (all_files new) f ≡ true
   all_kept f there =
       among_kinds new f ∙ (λ j. kinds_kept old new kind n free joins f 1 (apart old new kind n free joins f there) j || kinds_kept old new kind n free joins f 2 (apart old new kind n free joins f there) j || kinds_kept old new kind n free joins f 3 (apart old new kind n free joins f there) j || kinds_kept old new kind n free joins f 4 (apart old new kind n free joins f there) j) ∙ sym (among_kinds old f) ∙ there

@@ -20,7 +20,7 @@ first_of w s block_kind is = is ∙ ap (λ (t : Bool). if t then 0 else first_bl
 pub count_of : (w n : ℕ) → kind_of w ≢ external → n ≡ (if kind_of w == external then 0 else block_count w) → n ≡ block_count w
 count_of w n block_kind is = is ∙ ap (λ (t : Bool). if t then 0 else block_count w) (not_external w block_kind)
 
--- they lie in one group
+-- the blocks of an address lie in one group
 pub in_group : (w : ℕ) → is_address w ≡ true → kind_of w ≢ external → first_block w % 4 + block_count w ≤ 4
 unfolding is_address names_external names_blocks
 in_group w is block_kind = let t = not_external w block_kind in grind (arith, nat_tests)

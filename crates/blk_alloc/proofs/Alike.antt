@@ -23,7 +23,7 @@ zeros_at (suc (suc (suc (suc i)))) small = absurd (omega arith)
 bit_is : (image : Image) (n : ℕ) (map : List ℕ) → map ≡ range_at (byte image (Block n)) 80 8112 → (b : ℕ) → b < 64896 → is_block_marked image n b ≡ has_bit map b
 bit_is image n map read b small = sym (ap (λ (l : List ℕ). has_bit l b) read ∙ bit_read (byte image (Block n)) 0 8112 b b (omega (arith, small)) (omega arith))
 
--- where they are those of the used blocks, so are the bits
+-- where the marks are those of the used blocks, the bits are so
 pub right_bits : (claims : Claims) (image : Image) (n : ℕ) (map : List ℕ) → map ≡ range_at (byte image (Block n)) 80 8112 → HasMarksOf claims image n → AreBitsOf claims n 64896 map
 right_bits claims image n map read right b small = sym (bit_is image n map read b small) ∙ right.marks b small
 
@@ -63,7 +63,7 @@ module _ (claims : Claims) (n groups : ℕ) (image : Image) (map empty : List �
     empty = λ i small. counters.empty i small ∙ counts_are same i small;
   }
 
-  -- and where they are, they have the counters
+  -- where map and counters are those of the used blocks, the counters are the ones that were counted
   pub right_counters : groups ≡ groups_of (max_entries_in image n) → HasMarksOf claims image n → HasTheseCounters (byte image (Block n)) (allocations_in claims n) empty
   unfolding EmptyAgrees
   right_counters same right = record { allocations = right.allocations; empty = λ i small. right.empty i small ∙ sym (counts_are same i small) }

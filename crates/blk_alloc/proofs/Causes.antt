@@ -13,7 +13,7 @@ use Rattle.blk_alloc.specs.Owning.{IsCause}
 none_some : {image : Image} → None ≡ Some image → ⊥
 none_some {image} e = cc
 
--- a cause at a later moment is one at the start, where nothing was told then
+-- a cause at a later moment is one at the start, where the folder was opaque then
 pub cause_before : (later before : Told) (n start count : ℕ) (used : Bool) (damage : Damage) → before.files ≡ None → IsCause later n start count used damage → IsCause before n start count used damage
 cause_before later before n start count used damage none =
     ⊎_elim
@@ -30,7 +30,7 @@ if_damaged_both {A} (Ok a) P Q R both one other = tt
 if_damaged_both {A} (Err Device) P Q R both one other = tt
 if_damaged_both {A} (Err (Damaged damage)) P Q R both one other = both damage one other
 
--- files that are told after some steps were told before
+-- files that are observed after some steps were observed before
 pub told_before : (f : Image → Image) (a b : Option Image) (mid : Image) → b ≡ option_map f a → b ≡ Some mid → (from : Image) × (a ≡ Some from) × (mid ≡ f from)
 told_before f None b mid is now = absurd (none_some (sym is ∙ now))
 told_before f (Some from) b mid is now = (from, refl, some_inj (sym now ∙ is))

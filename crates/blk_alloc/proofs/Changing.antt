@@ -104,11 +104,11 @@ module _ (n : ℕ) (plan : Plan) (low : 80 ≤ plan.at) (high : plan.at + 4 ≤ 
   abbrev pub begun : Image → Image
   begun from = applied (Word file 56 (word_bytes 1)) from
 
-  -- and when all but updating is written
+  -- the files when all but updating is written
   abbrev pub written : Image → Image
   written from = after (word_steps file (inner_words plan)) (begun from)
 
-  -- and at the end
+  -- the files at the end
   abbrev pub ended : Image → Image
   ended from = applied (Word file 56 (word_bytes 0)) (written from)
 

@@ -1,4 +1,4 @@
--- Marks of used blocks, and the groups that they leave.
+-- The marks of used blocks, and the groups that they leave free.
 use Rattle.std.proofs.Common.{◌≡◌, ℕ, zero, suc, ◌+◌, ◌≤◌, Bool, refl, ◌∙◌, ap, arith}
 use Rattle.std.specs.Prelude.{◌==◌}
 use Rattle.std.specs.List.{count_by, range_with_len}

@@ -27,7 +27,7 @@ module _ (n : ℕ) where
       within-trans (range (Block n) p 4) (range (Block n) 24 16) (counts_of n) (range_within (Block n) p 4 24 16 low high)
       (within-trans (range (Block n) 24 16) emptied (counts_of n) (within_left (range (Block n) 24 16) (range (Block n) 80 8112)) (within_right (one_word (Block n) 16) emptied))
 
-  -- and so is the map
+  -- the map is among what may change
   pub at_map : IsWithin (range (Block n) 80 8112) (counts_of n)
   at_map = within-trans (range (Block n) 80 8112) emptied (counts_of n) (within_right (range (Block n) 24 16) (range (Block n) 80 8112)) (within_right (one_word (Block n) 16) emptied)
 
@@ -53,7 +53,7 @@ pub word_kept : {a b : Told} (n at value : ℕ) → Applies a b (word_step (Bloc
 unfolding word_step
 word_kept {a} {b} n at value grows long = told_whole (λ image. 8192 ≤ length_of image (Block n)) grows (λ from there. let e = (outside_write (Block n) at (word_bytes value) from).lengths (Block n) refl in let was = long from there in omega (arith, e, was))
 
--- and after two
+-- a header has its length after two words
 pub two_kept : {a b : Told} (n p v q w : ℕ) → Applies a b (word_steps (Block n) ((p, v) ∷ (q, w) ∷ [])) → ForSome a.files (λ image. 8192 ≤ length_of image (Block n)) → ForSome b.files (λ image. 8192 ≤ length_of image (Block n))
 unfolding word_step
 two_kept {a} {b} n p v q w grows long =

@@ -115,7 +115,7 @@ groups_owned (w ∷ ws) n =
     let split = count-or (λ g. first_block w / 4 == g) (λ g. list_any (λ x. first_block x / 4 == g) ws) 0 n in
     omega (arith, rest, once, split)
 
--- a file where some blocks fit at the front of no group has an allocation for each group
+-- a file where some blocks fit at the start of no group has an allocation for each group
 pub full_counts : (image : Image) (n count : ℕ) (words : List ℕ) → count ≤ 4 → max_entries_in image n % 4 ≡ 0 → max_entries_in image n ≤ most_blocks → AreAllocations image n words → ((g : ℕ) → g < groups_of (max_entries_in image n) → is_place (is_block_marked image n) count (4 * g) ≡ false) → groups_of (max_entries_in image n) ≤ allocations_of (byte image (Block n))
 full_counts image n count words few whole most are full =
     let hit : ℕ → Bool = λ g. list_any (λ w. first_block w / 4 == g) words in

@@ -46,7 +46,7 @@ growth_keeps m from image same n i small = hint_outside (growth_of m) from image
 pub map_keeps : (m : ℕ) (from image : Image) → SameOutside (map_of m) from image → KeepsHints from image
 map_keeps m from image same n i small = hint_outside (map_of m) from image n i same (map_spares m n) small
 
--- so does a length
+-- a change of a length keeps all hints
 pub size_keeps : (m : ℕ) (from image : Image) → SameOutside (size_of (Block m)) from image → KeepsHints from image
 size_keeps m from image same n i small = hint_outside (size_of (Block m)) from image n i same (λ k low high. refl) small
 

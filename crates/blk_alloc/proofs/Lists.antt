@@ -70,7 +70,7 @@ claims_blocks w n b is = ap (λ (l : List Claim). has_claim l (BlockOf n b)) (cl
     turned : ((n == file_selector w) && is_between (first_block w) (first_block w + block_count w) b) ≡ ((file_selector w == n) && is_between (first_block w) (first_block w + block_count w) b)
     turned = grind (arith, nat_tests)
 
--- it uses its first block
+-- an address of blocks uses its first block
 first_claimed : (w : ℕ) → IsBlocks w → has_claim (claims_of w) (BlockOf (file_selector w) (first_block w)) ≡ true
 first_claimed w is = claims_blocks w (file_selector w) (first_block w) is ∙ (let some = block_count_above_0 w in unfold is_of in grind (arith, nat_tests))
 

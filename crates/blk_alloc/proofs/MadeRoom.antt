@@ -80,7 +80,7 @@ module _ (old new : BlockFiles) (k : Kind) (block_kind : kind_number k ≢ exter
           ∙ (λ j. sym (hints room.file 3 e (omega arith)) j % groups_of (same j)))
           lies
 
-  -- and the hint is set
+  -- the hint that led to the blocks is set
   pub sets_hint : (image : Image) (w : ℕ) → file_selector w ≡ room.file → first_block w ≡ place.start → HasHintAmong room.file 3 (place.start / 4) mid image → SetsHint old (kind_number k) count from w image
   sets_hint image w of start is = record {
     i = 3;
@@ -90,7 +90,7 @@ module _ (old new : BlockFiles) (k : Kind) (block_kind : kind_number k ≢ exter
         is.others m i small (⊎_elim (λ (other : m ≢ file_selector w). inl (λ (e : m ≡ room.file). other (e ∙ sym of))) (λ other. inr other) apart) ∙ hints m i among small;
   }
 
-  -- they may be taken
+  -- the blocks may be taken
   pub can_take : Agrees new mid → is_among (all_files new) room.file ≡ true → CanBeMarked mid room → CanBeMarked mid place
   can_take agrees among can =
       let blocks = agrees.blocks room.file among in

@@ -160,7 +160,7 @@ module _ (claims : Claims) (n groups a : ℕ) (e : List ℕ) (from mid : Image) 
 pub rebuilt_by : (claims : Claims) (n : ℕ) (image : Image) → HasMarksOf claims image n → updating_of (byte image (Block n)) ≡ 0 → IsRebuilt claims image n
 rebuilt_by claims n image has zero_is = record { right = has; updating = zero_is }
 
--- and updating is 0 once this is written
+-- a file whose map and counters are right is rebuilt once its updating is written as 0
 pub end_rebuilt : (claims : Claims) (n : ℕ) (mid : Image) → HasMarksOf claims mid n → (bytes : List ℕ) → bytes ≡ word_bytes 0 → (image : Image) → AreBytesWritten (Block n) 56 bytes 4 mid image → IsRebuilt claims image n
 end_rebuilt claims n mid has bytes zeros image written =
     rebuilt_by claims n image (has_marks_kept n mid image (only_updating n bytes mid image written) claims has)
@@ -253,7 +253,7 @@ module _ (claims : Claims) (n : ℕ) (from : Image) where
             subst (λ (j : ℕ). byte image (Block n) j ≡ byte from (Block n) j) {x = 56 + (i - 56)} {y = i} (omega (arith, low)) (at_zero rebuilt (i - 56) (omega (arith, low, high)))
         all rebuilt i false e = only_updating n bytes from image written i e
 
-    -- where they aren't, updating becomes 1 first
+    -- where the map and the counters aren't right, updating becomes 1 first
     module _ (wrong : HasMarksOf claims from n → ⊥) where
       pub first_step : (image : Image) → (image ≡ from) ⊎ AreBytesWritten (Block n) 56 bytes 4 from image → RemakesInProgress claims n from image
       first_step image (inl is) = subst (RemakesInProgress claims n from) (sym is) remakes_begin
@@ -264,7 +264,7 @@ module _ (claims : Claims) (n : ℕ) (from : Image) where
         right = λ rebuilt. absurd (wrong rebuilt.right);
       }
 
-      -- and then all is written
+      -- after updating is 1, all is written
       pub then_all : (mid : Image) → AreBytesWritten (Block n) 56 bytes 4 from mid → (image : Image) → IsMendingToEnd claims n mid image → RemakesInProgress claims n from image
       then_all mid written image mending = record {
         same = outside-trans (map_of n) from mid image (in_map n bytes from mid written) mending.same;

@@ -46,7 +46,7 @@ pub room_moment : (files : BlockFiles) (kind : ℕ) (from image : Image) → Mak
 room_moment files kind from image room =
     (record { file = room.file; within = room_marked files kind room.file from image image room.within (outside-refl (taking_of room.file) image); updating = inr (room_begun files kind room.file from image image room.within (outside-refl (quiet_of room.file) image)) }, room.stays)
 
--- its blocks are being marked
+-- space was made, and its blocks are being marked
 pub mark_moment : (files : BlockFiles) (kind n : ℕ) (from mid image : Image) → ExtendsAnd updating_word files kind from n mid → StaysWhole from mid → MarksUsedInProgress n mid image → ExtendsInProgress files kind from image × StaysWhole from image
 mark_moment files kind n from mid image room stays marks = (
   record {
@@ -57,7 +57,7 @@ mark_moment files kind n from mid image room stays marks = (
   whole_then from mid image stays (taking_whole n mid image marks.same marks.longer),
 )
 
--- its blocks are marked
+-- space was made, and its blocks are marked
 pub marked_moment : (files new : BlockFiles) (kind count : ℕ) (place : Blocks) (from mid image : Image) → file_selector (block_word kind place.file place.start count) ≡ place.file → IsGrownPlace files kind count from place ⊎ IsAddedPlace files kind place → ExtendsAnd updating_word files kind from place.file mid → StaysWhole from mid
     → MarksUsed new mid (block_word kind place.file place.start count) image → Allocates files from (block_word kind place.file place.start count) image → ExtendsAndAllocates files kind count from image × StaysWhole from image
 marked_moment files new kind count place from mid image file chosen room stays used allocates = (

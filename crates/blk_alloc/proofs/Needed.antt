@@ -167,7 +167,7 @@ stands_behind f place bytes n from image written i past = written.same.bytes f (
     by_test true = grind (arith, nat_tests)
     by_test false = refl
 
--- what is told of the files before and now leads to what is told of them now
+-- what holds of the observed files before and now leads to what holds of them now
 pub told_so_far : (old new : Option Image) (P : Image → Type 0) (R : Image → Image → Type 0) (Q : Image → Type 0) → (old ≡ None → new ≡ None) → ForSome old (λ from. ForSome new (R from)) → ForSome old P → ((from image : Image) → R from image → P from → Q image) → ForSome new Q
 told_so_far None new P R Q silent related before leads image is = absurd (no_some (sym (silent refl) ∙ is))
   where

@@ -54,7 +54,7 @@ module _ (image : Image) (n start count : ℕ) (used : Bool) (old new : List ℕ
   old_bits : (m : ℕ) → m < 32 → has_bit old m ≡ is_block_marked image n (32 * (start / 32) + m)
   old_bits m small = ap (λ (l : List ℕ). has_bit l m) read ∙ bit_read (byte image (Block n)) (4 * (start / 32)) 4 (32 * (start / 32) + m) m (omega arith) (omega arith)
 
-  -- and with the new marks
+  -- the word's bits with the new marks
   pub new_bits : (m : ℕ) → m < 32 → has_bit new m ≡ with_marks (is_block_marked image n) start count used (32 * (start / 32) + m)
   new_bits m small =
       marks m ∙ ap (λ (t : Bool). if t then used else has_bit old m) (in_word start count m small group)

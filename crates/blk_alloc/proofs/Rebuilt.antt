@@ -24,7 +24,7 @@ use Rattle.blk_alloc.proofs.Remade.{one_more, others_kept, rebuilding_begin, reb
 use Rattle.spec_format.proofs.Growths.{grown_blocks}
 use Rattle.blk_alloc.proofs.Needed.{needed_end, needed_none, needed_part, needed_then, needed_weaker, passes_first}
 
--- what is told, of its two parts
+-- the ghost state of a folder, made of its two parts: files and write trace
 abbrev told_of : Option Image → Option Trail → Told
 told_of files trail = record { files = files; trail = trail }
 
@@ -115,7 +115,7 @@ module _ (a b : Told) (old mid : BlockFiles) (claims : Claims) (n : ℕ) (before
         let here = right n among in
         clean from (ap (λ (t : Told). t.files) same ∙ there) (long_still old mid n before.fitted here.0) here.1 ∙ same
 
-    -- and is rebuilt
+    -- the next file is rebuilt
     pub next_rebuilt : (new : BlockFiles) → (b.files ≡ None → c.files ≡ None) → ForSome c.files (λ image. IsRebuilt claims image n) → Resizes mid new n (max (length_in mid n) (whole_length mid n)) → ForSome c.files (Agrees new) → ForSome b.files (λ from. HasItsBlocks mid n → IsRebuilt claims from n → Stays b c) → HasRebuilt a c old new claims (n + 1)
     next_rebuilt new silent done resizes agrees clean = record {
       rebuilt =

@@ -89,7 +89,7 @@ module _ (n a : ℕ) (number : List ℕ) (bytes_of_number : number ≡ word_byte
     counting_number : IsCounting n a e from mid
     counting_number = record { same = outside_wider (range (Block n) 16 4) (counters_of n) from mid at_number first.same; allocations = inr number_is; empty = λ i few. inl (runs_stay i) }
 
-    -- and then the runs
+    -- the number is written, and then the runs
     module _ (bytes : List ℕ) (are : bytes ≡ four_words e) (image : Image) where
       long : length bytes ≡ 16
       long = ap length are

@@ -34,7 +34,7 @@ rebuilt_bytes claims a b n same rebuilt =
 pub rebuilt_same : (claims : Claims) (a b : Image) (n : ℕ) → b (Block n) ≡ a (Block n) → IsRebuilt claims a n → IsRebuilt claims b n
 rebuilt_same claims a b n same = rebuilt_bytes claims a b n (λ i. ap (λ (o : Option (List ℕ)). content (unwrap_or o []) i) same)
 
--- and is in hand as it was
+-- a file that is as it was is in hand as it was
 pub in_hand_same : (claims : Claims) (n : ℕ) (from a b : Image) → b (Block n) ≡ a (Block n) → IsInHand claims n from a → IsInHand claims n from b
 in_hand_same claims n from a b same (inl keeps) = inl (λ i beside. ap (λ (o : Option (List ℕ)). content (unwrap_or o []) i) same ∙ keeps i beside)
 in_hand_same claims n from a b same (inr (inl one)) = inr (inl (ap (λ (o : Option (List ℕ)). updating_of (content (unwrap_or o []))) same ∙ one))
@@ -170,7 +170,7 @@ module _ (claims : Claims) (n : ℕ) (from mid : Image) (lengthened : SameOutsid
       rebuilding_is claims (n ∷ []) from mid (outside_wider (size_of (Block n)) (rebuilding_of (n ∷ [])) from mid (size_within (n ∷ []) n (is_only n)) lengthened) all_longer
       (λ m there. inl (λ i beside. lengthened.bytes (Block m) i refl)) (λ m there. each_same claims m from from from mid (λ i beside. refl) (λ i beside. lengthened.bytes (Block m) i refl) (each_begin claims m from)) (λ m there rebuilt i. lengthened.bytes (Block m) i refl)
 
-  -- and its map and counters are under way
+  -- the file was lengthened, and its map and counters are under way
   pub remade_is : (image : Image) → RemakesInProgress claims n mid image → IsRebuilding claims (n ∷ []) from image
   remade_is image remade =
       rebuilding_is claims (n ∷ []) from image

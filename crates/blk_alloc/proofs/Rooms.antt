@@ -230,7 +230,7 @@ if_damaged_any {A} (Ok a) X holds = tt
 if_damaged_any {A} (Err Device) X holds = tt
 if_damaged_any {A} (Err (Damaged damage)) X holds = holds
 
--- files that were told before some steps are told after them
+-- files that were observed before some steps are observed after them
 pub told_later : {a b : Told} {P Q : Image → Type 0} {from : Image} → PassesTo a b P Q → a.files ≡ Some from → (mid : Image) × (b.files ≡ Some mid)
 told_later {a} {b} {P} {Q} {from} passes there = (after passes.steps from, passes.applies.files ∙ ap (option_map (after passes.steps)) there)
 

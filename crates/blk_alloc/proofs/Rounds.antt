@@ -1,4 +1,4 @@
--- One round over the groups of a map, from one on and round to the front, word after word.
+-- One round over the groups of a map, from one on and round to the start, word after word.
 use Rattle.std.proofs.Common.{◌≡◌, ◌≢◌, ℕ, ◌+◌, ◌-◌, ◌*◌, ◌/◌, ◌%◌, ◌<◌, ◌≤◌, Bool, sym, ◌∙◌, ap, arith, ⊎_elim}
 use Rattle.std.proofs.lemmas.Bool.{cases_lt}
 use Rattle.std.proofs.Math.Nat.{div-add-mod, mod-add-mod, mod-eq_of_lt, mod-lt, mul-add-mod_self_left, mul_assoc, add-mod_right}
@@ -76,7 +76,7 @@ module _ (marked : ℕ → Bool) (words hint run : ℕ) (some : 0 < words) where
         λ (e : longest_run marked (p % groups) ≡ run). before j (from j (omega (arith, is, low))) less (ap (longest_run marked) (sym met) ∙ e))
         (cases_lt p (8 * (start / 8 + turn)))
 
-    -- it is met within one round
+    -- a group of a word is met within one round
     within : p0 < start + groups
     within =
         ⊎_elim (λ (h : p0 < start + groups). h)

@@ -64,7 +64,7 @@ module _ (p : ℕ → Bool) (g count : ℕ) (few : count ≤ 4) (some : 0 < coun
       (λ i low high. is_false (are_free p (4 * g + i) r)
       (λ free. clash (sym (is_a_place p count (4 * g + i) (omega (arith, high, long, most, some)) (fewer_free p (4 * g + i) r count long free)) ∙ none (4 * g + i) (omega arith) (omega (arith, high, most, long, some)))))
 
-  -- so the longest is shorter
+  -- without a place for so many blocks the longest run is shorter
   pub shorter : ((b : ℕ) → 4 * g ≤ b → b < 4 * g + 4 → is_place p count b ≡ false) → longest_run p g < count
   unfolding longest_run
   shorter none =
@@ -80,7 +80,7 @@ module _ (p : ℕ → Bool) (g count : ℕ) (few : count ≤ 4) (some : 0 < coun
       go false false false true e f h k = above true 1 refl k
       go false false false false e f h k = some
 
-  -- a place at the front of a group is a run of it
+  -- a place at the start of a group is a run of it
   pub longer : is_place p count (4 * g) ≡ true → count ≤ longest_run p g
   unfolding longest_run has_run is_place
   longer is =
@@ -133,7 +133,7 @@ longest_most p g = go (has_run p g 4) (has_run p g 3) (has_run p g 2) (has_run p
     go false false false true = omega arith
     go false false false false = omega arith
 
--- where true counters count no run of so many blocks, no group has them at its front
+-- where true counters count no run of so many blocks, no group has them at its start
 pub none_at_front : (image : Image) (n count g : ℕ) → count ≤ 4 → 0 < count → EmptyAgrees image n → HasNoRoom image count n → g < groups_of (max_entries_in image n) → is_place (is_block_marked image n) count (4 * g) ≡ false
 unfolding EmptyAgrees groups_with
 none_at_front image n count g few some agrees none there = is_false (is_place p count (4 * g)) never
@@ -161,7 +161,7 @@ pub count_words : (k : ℕ) → is_block_count k ≡ true → k % 32 ≡ 0
 unfolding is_block_count
 count_words k is = grind (arith, nat_tests)
 
--- so it has eight groups for each
+-- a file has eight groups for each word of marks
 pub word_groups : (files : BlockFiles) (n blocks : ℕ) → is_among (all_files files) n ≡ true → Some blocks ≡ (if is_among (all_files files) n then Some (blocks_of files n) else None) → (blocks ≡ blocks_of files n) × (groups_of (blocks_of files n) ≡ 8 * (blocks / 32))
 word_groups files n blocks among is =
     let same : blocks ≡ blocks_of files n = some_inj (is ∙ ap (λ (t : Bool). if t then Some (blocks_of files n) else None) among) in

@@ -116,7 +116,7 @@ module _ (n i : ℕ) (small : i < 4) (from mid : Image) (same : SameOutside (one
     updating = inr (outside_wider hint (quiet_of n) from mid (within-trans hint (hints_of_file n) (quiet_of n) (hint_among n i small) (hints_quiet n)) same);
   }
 
-  -- and one while the blocks are marked
+  -- a moment while the blocks are marked
   pub marked_moment : (image : Image) → MarksUsedInProgress n mid image → MarksUsedInProgress n from image
   marked_moment image midst =
       let first = hinted_moment in

@@ -47,7 +47,7 @@ pub record IsGrownPlace (files : BlockFiles) (kind count : ℕ) (image : Image) 
   pub growing : IsFirstGrowing files (files_of files kind) place.file
   pub blocks : IsByHint image place.file (groups_of (grown (blocks_of files place.file))) count 3 place.start
 
--- no file of a kind may be extended, and a new file with the least free number gives its first blocks (its hints are 0, so a search begins at its front)
+-- no file of a kind may be extended, and a new file with the least free number gives its first blocks (its hints are 0, so a search begins at its start)
 pub record IsAddedPlace (files : BlockFiles) (kind : ℕ) (place : Blocks) : Type 0 where
   pub full : All (HasMostBlocks files) (files_of files kind)
   pub few : length (files_of files kind) < most_files

@@ -46,7 +46,7 @@ pub record IsPlan (image : Image) (n start count : ℕ) (used : Bool) (plan : Pl
       ≡ empty_of (byte image (Block n)) i + counted (longest_run (with_marks (is_block_marked image n) start count used) (start / 4)) i
 
 -- the marks of these blocks of file n may be changed: the file has its header and whole groups, the blocks are below max_entries, `empty` agrees with the map,
--- and num_entries can be raised or lowered
+-- and num_entries can go up or down by one
 pub record CanChangeMarks (image : Image) (n start count : ℕ) (used : Bool) : Type 0 where
   pub header : 8192 ≤ length_of image (Block n)
   pub whole : max_entries_in image n % 4 ≡ 0

@@ -14,7 +14,7 @@ pub record AreCounters (f : ℕ → ℕ) (counters : Counters) : Type 0 where
   pub allocations : counters.allocations ≡ allocations_of f
   pub empty : (i : ℕ) → i < 4 → slice_index counters.empty i ≡ empty_of f i
 
--- by how much a group whose longest free run is `run` raises word i of `empty`: 1 where the run is i + 1 blocks
+-- by how much a group whose longest free run is `run` increases word i of `empty`: 1 where the run is i + 1 blocks
 abbrev pub counted : ℕ → ℕ → ℕ
 counted run i = if run == i + 1 then 1 else 0
 
@@ -42,8 +42,8 @@ pub record IsEmptyAt (counters : Counters) (run number : ℕ) (damage : Damage) 
   pub found : damage.found ≡ slice_index counters.empty i
   pub is : damage.found ≡ number
 
--- a counter can't follow a change: num_entries is at its end (the largest number to be raised, 0 to be lowered); or the longest free run of the group changes,
--- and the word of `empty` for the old run is 0, or that for the new run is the largest number
+-- a counter can't follow a change: num_entries is at its end (the largest number where it is to rise, 0 where it is to fall); or the longest free run of the
+-- group changes, and the word of `empty` for the old run is 0, or that for the new run is the largest number
 pub record IsAtEnd (counters : Counters) (n before later : ℕ) (used : Bool) (damage : Damage) : Type 0 where
   pub of_file : damage.file ≡ names.Block n
   pub counter : ((damage.at ≡ allocations_place) × (damage.found ≡ counters.allocations) × (damage.found ≡ (if used then largest else 0)))

@@ -10,7 +10,7 @@ use Rattle.blk_disk.specs.Tables.{all_files, blocks_of, files_of, length_in, sta
 use Rattle.blk_disk.specs.Growth.{whole_length}
 use Rattle.blk_alloc.specs.Counting.{largest}
 
--- the counters of file n agree with its map and a list of its allocations, and num_entries may be raised by one
+-- the counters of file n agree with its map and a list of its allocations, and num_entries may rise by one
 pub record HasCounters (image : Image) (n : ℕ) : Type 0 where
   pub words : List ℕ
   pub are : AreAllocations image n words

@@ -50,7 +50,7 @@ pub record IsLeastOfGroup (marked : ℕ → Bool) (count start : ℕ) : Type 0 w
   pub least : AreNoPlaces marked count (group_size * (start / group_size)) start
 
 -- the blocks from `start` on are those to which hint i leads in file n: in the first group, from the hint on, whose longest free run is i + 1, and as near its
--- front as they fit
+-- start as they fit
 pub record IsByHint (image : Image) (n groups count i start : ℕ) : Type 0 where
   pub there : start / group_size < groups
   pub first : IsFirstMet (is_block_marked image n) groups (hints_of (byte image (Block n)) i) (i + 1) (start / group_size)

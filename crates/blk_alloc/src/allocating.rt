@@ -141,13 +141,12 @@ fn allocate_new<F: Folder, L: Ledger>(
     take(folder, files, kind, found)
 }
 
-/// Gives 1 to 4 blocks of a block kind, and 1 of `Rankings`, which nobody owned, marks them, and counts the words of maps that are read.
+/// Gives 1 to 4 blocks of a block kind, or 1 of `Rankings`, that had no owner, marks them, and counts the words of maps that are read.
 ///
-/// They lie inside one group of four. The files of the kind are tried in the order of their links. By its counters a
-/// file has space where some group has a longest free run of as many blocks or more. The shortest such run is sought,
-/// from the group at its hint on and round to the front; the first group that has it gives its least place, and the
-/// hint becomes its number. Where no file has space, the first file with fewer than 64896 blocks grows, and where there
-/// is none, a file is added and grows; then it is searched in this way.
+/// They lie inside one group of four. The files of the kind are tried in the order of their links. By its counters a file has space where some group has a
+/// longest free run of as many blocks or more. The shortest such run is sought, from the group at its hint on and round to the start; the first group that has
+/// it gives its least place, and the hint becomes its number. Where no file has space, the first file with fewer than 64896 blocks grows, and where there is
+/// none, a file is added and grows; then it is searched in this way.
 ///
 /// A failed check is a read of a file's header that gave too few bytes, a counter that would leave its range or that
 /// counts a group which one round of the map doesn't have, or 60 full files of the kind; then it finds the last word of

@@ -1,4 +1,4 @@
--- What checks, and whose seal isn't 0, is sealed.
+-- A checksum that isn't 0 and passes the check is the hash of the bytes before it.
 use Rattle.std.proofs.Common.{◌≡◌, ◌≢◌, ℕ, Bool, true, false, ◌||◌, List, refl, sym, ap, ◌∙◌, arith}
 use Rattle.std.specs.Prelude.{◌==◌}
 use Rattle.std.proofs.lemmas.Bool.{eqb-true}
@@ -16,7 +16,7 @@ second : (a b : Bool) → (a ≡ true → ⊥) → (a || b) ≡ true → b ≡ t
 second true b none h = absurd (none refl)
 second false b none h = h
 
--- bytes that check, and have no 0 as their seal
+-- bytes whose checksum isn't 0 and passes the check
 sealed_by : (place : ℕ) (bytes : List ℕ) → word_at (content bytes) place ≢ 0 → checks place bytes ≡ true → is_sealed place bytes ≡ true
 sealed_by place bytes some good = second (word_at (content bytes) place == 0) (word_at (content bytes) place == seal_of place bytes) (λ zero. some (eqb-true (word_at (content bytes) place) 0 zero)) good
 

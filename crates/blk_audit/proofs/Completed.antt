@@ -105,7 +105,7 @@ module _ (image : Image) (nodes : Nodes) (are : AreNodesOf image nodes) (head : 
       ∙ ap (λ (ws : List ListWrite). walk (after_writes ws (list_of image))) plan
       ∙ finished_walk (list_of image)
 
--- a walked node checks
+-- the checksum of a walked node matches or is absent
 pub walked_checks : (image : Image) (node : ℕ) → is_among (completed_walk image) node ≡ true → (list_of image).checks node ≡ true
 walked_checks image node among =
     let done : ListView = after_writes (completion_writes (list_of image)) (list_of image) in

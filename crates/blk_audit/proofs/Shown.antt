@@ -63,7 +63,7 @@ module _ (image : Image) (w : ℕ) (small : AreBytes image) (kind : kind_of w �
       entry_checks-by (entry_at image w) (entry_in (content (record_at image w)) 0) seal (entry-here image w kind)
       ∙ entry_checks-prefix (record_at image w) front (omega (arith, s, length-record w image))
 
-  -- the bytes that are read check where the record does
+  -- the checksum of the bytes that are read matches or is absent where that of the record does
   pub checks_read : (bytes : List ℕ) → bytes ≡ range_at (byte image (Block (file_selector w))) (place w + 0) 96 → checks 92 bytes ≡ entry_checks (entry_at image w)
   checks_read bytes is = ap (checks 92) (record_read image w 96 bytes (sym (entry_bytes w kind)) is) ∙ sym checks_is
 

@@ -1,4 +1,4 @@
--- The walked nodes are valid among the block files, whatever the folder tells.
+-- The walked nodes are valid among the block files, of an observable and of an opaque folder.
 use Rattle.std.proofs.Common.{◌≡◌, ℕ, ◌+◌, Bool, true, false, ◌&&◌, List, Option, None, refl, sym, ap, ◌∙◌, if◌then◌else◌}
 use Rattle.std.specs.Prelude.{◌==◌, nat_lt, slice_get, slice_index}
 use Rattle.std.specs.Option.{option_map_or}

@@ -45,7 +45,7 @@ module _ (writes : List ListWrite) (nodes : Nodes) (head : ℕ) where
       fail_first ((list_after writes nodes head).checks link.word) (not (is_among old link.word)) ((list_after writes nodes head).prev link.word == link.before)
       (checks_is link.word ∙ ap (λ (o : Option Node). option_map_or (λ n. n.checks) o false) at)
 
-  -- it doesn't check
+  -- the node has a wrong checksum
   pub link_unchecked : (old : List ℕ) (link : Link) (node : Node) → loaded_node nodes link.word ≡ Some node → node.checks ≡ false → is_next (list_after writes nodes head) old link ≡ false
   link_unchecked old link node at bad =
       fail_first ((list_after writes nodes head).checks link.word) (not (is_among old link.word)) ((list_after writes nodes head).prev link.word == link.before)

@@ -49,7 +49,7 @@ pub record AreWordsOf (image : Image) (entry : ℕ) (words : RecordWords) : Type
   pub next : words.next ≡ (entry_at image entry).next
   pub bare : words.bare ≡ ((entry_at image entry).self_hash == 0)
 
--- `sum` is the hash of a short key of this length, which is at the front of the bytes
+-- `sum` is the hash of a short key of this length, which is at the start of the bytes
 abbrev pub is_hash_in : ℕ → ℕ → List ℕ → Bool
 is_hash_in sum key_len bytes = (nat_le key_len longest_short_key && nat_le key_len (length bytes)) && (hash (take key_len bytes) == sum)
 
@@ -61,7 +61,7 @@ record_in bytes = record { words = record_words_in (take entry_size bytes); hash
 abbrev pub IsHashOfKey : Image → ℕ → RecordWords → ℕ → Type 0
 IsHashOfKey image entry words sum = (key : List ℕ) → stored_key (store_of image) entry (fields_said words) ≡ Some key → sum ≡ hash key
 
--- if a scan tells that the hash of a record is right, it is that of its key in the image
+-- if a scan says that the hash of a record is right, it is that of its key in the image
 abbrev pub IsRightWhereSaid : Image → ℕ → ReadRecord → Type 0
 IsRightWhereSaid image entry said = said.hash_is_right ≡ true → IsHashOfKey image entry said.words said.words.hash
 

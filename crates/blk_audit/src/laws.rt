@@ -2,8 +2,8 @@
 ghost use Rattle.blk_audit.specs.ChainLaws.{ReachedAreChained, ReachedAreTheChains, UnlistedAreReached};
 ghost use Rattle.blk_audit.specs.SealLaws.{CheckedNodesAreSealed, CheckedRecordsAreSealed};
 
-/// The reached records are those of all chains in turn; a record is reached at all exactly where its own bucket's chain reaches it; and the unlisted records
-/// are some of the reached ones, in their order.
+/// The reached records are those of all chains, one chain after the other; a record is reached at all exactly where its own bucket's chain reaches it; and the
+/// unlisted records are some of the reached ones, in their order.
 pub fn chains_are_reached_apart()
     ensures chains { ReachedAreTheChains }
     ensures chained { ReachedAreChained }

@@ -29,9 +29,9 @@ pub struct WalkedNode {
     pub addr: Addr,
     /// The word of the record that it names.
     pub contents: u32,
-    /// 0 where no session has its record open.
+    /// The dirty flag: 0, or the number of the session that made the object dirty.
     pub dirty: u32,
-    /// Whether its seal is 0.
+    /// Whether its checksum is 0.
     pub bare: bool,
 }
 

@@ -15,7 +15,7 @@ use blk_disk::BlockFiles;
 use blk_io::Folder;
 use std::alloc::Global;
 
-// What a node says, whether it checks and whether its seal is 0: 20 bytes.
+// What a node says, whether its checksum matches or is absent, and whether it is absent (0): 20 bytes.
 #[derive(Clone, Copy)]
 pub(crate) struct Node {
     pub(crate) checks: bool,

@@ -302,8 +302,8 @@ fn follow<F: Folder>(
     Ok(word)
 }
 
-// Reaches the record of a word, where there is one whose first block was not met, that checks, and is of the bucket.
-// Gives its next.
+// Reaches the record of a word, where there is one whose first block was not met, whose checksum matches or is absent, and which is of the bucket. Gives its
+// next.
 fn reach<F: Folder>(
     folder: &mut F,
     files: &BlockFiles,

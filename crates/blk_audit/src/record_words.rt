@@ -19,12 +19,12 @@ use blk_record::{EntryView, Record};
 // The place of the state in a record.
 const STATE: usize = EntryView::STATE as usize;
 
-/// The words of a record that say what it is, where its chain goes on, and whether it checks.
+/// The words of a record that say what it is, where its chain goes on, and whether its checksum matches or is absent.
 #[derive(Clone, Copy, Debug)]
 pub struct RecordWords {
-    /// Whether its seal is 0 or the hash of the bytes before it.
+    /// Whether its checksum is 0 or the hash of the bytes before it.
     pub checks: bool,
-    /// Whether its seal is 0.
+    /// Whether its checksum is 0.
     pub bare: bool,
     /// The hash of the key.
     pub hash: u32,

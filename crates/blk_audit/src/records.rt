@@ -11,7 +11,7 @@ use blk_record::{EntryView, Record, super_fast_hash};
 /// What was read of a record.
 #[derive(Clone, Copy, Debug)]
 pub struct ReadRecord {
-    /// Its words.
+    /// The words of the record.
     pub words: RecordWords,
     /// Whether its hash is known to be that of its key: the bytes of the key were read with it, and have this hash. No
     /// long key is read with it.

@@ -30,7 +30,7 @@ names-parts files w e =
     let b = and_parts (kind_of w == 2) (stands_among files w) a.1 in
     (a.0, (eqb-true (kind_of w) 2 b.0, b.1))
 
--- and so isn't 0
+-- a word that names a record that is there isn't 0
 pub named-some : (files : BlockFiles) → is_record_among files 0 ≡ true → ⊥
 unfolding kind_of
 named-some files e = let kind : kind_of 0 ≡ 2 = (names-parts files 0 e).1.0 in cc
@@ -51,12 +51,12 @@ shown-names files image w fields agrees here =
     is_two : (k : ℕ) → k ≡ 2 → (k == 2) ≡ true
     is_two k e = rw e refl
 
--- a record that a search meets checks in its bytes
+-- the bytes of a record that a search meets have a checksum that matches or is absent
 pub keyed-checks : (image : Image) (w : ℕ) → AreBytes image → IsKeyed w image → RecordChecks w image
 keyed-checks image w bytes keyed =
     record_checks image w bytes (shown-kind image w keyed.fields keyed.here) (ap (λ (c : RecordFields). c.checks) (shown-fields image w keyed.fields keyed.here) ∙ keyed.good)
 
--- so it can be read
+-- a record that a search meets can be read
 pub can-be-read : (files : BlockFiles) (image : Image) (entry word : ℕ) → entry ≡ word → AreBytes image → Agrees files image → IsKeyed word image → CanBeRead files entry image
 can-be-read files image entry word is bytes agrees keyed = record {
   agrees = agrees;
@@ -98,7 +98,7 @@ module _ (image : Image) (w : ℕ) (keyed : IsKeyed w image) (key : List ℕ) (i
     flag = ap (λ (c : RecordFields). c.flags == 2) (sym here-core) ∙ flag;
   }
 
-  -- and one with the name has the key and the flag
+  -- a record with the name has the key and the flag
   pub of-name : HasKey (store_of image) key is_child w → IsEntryOf key w image
   of-name named = record {
     hash = ap (λ (c : RecordFields). c.hash) (here-core ∙ some_inj (sym keyed.here ∙ named.here)) ∙ named.hashed;
@@ -118,7 +118,7 @@ pub sought-named : (image : Image) (w : ℕ) → IsKeyed w image → (key : List
 sought-named image w keyed key is_child sought =
     to-name image w keyed key is_child (record { hash = sought.bytes.hash; is = (key_by_bytes image w key (shown-kind image w keyed.fields keyed.here) keyed.key).0 sought.bytes.bytes }) sought.flag
 
--- two truths that are told apart, and two that are not
+-- two truths that differ, and two that don't
 pub differs : (a b : Bool) → not (beq a b) ≡ true → a ≡ b → ⊥
 differs a b apart same = by b (subst (λ (x : Bool). not (beq x b) ≡ true) same apart)
   where

@@ -80,7 +80,7 @@ fewer true true s c most p long some h = grind (arith, nat_tests)
 fewer true false s c most p long some h = h
 fewer false linked s c most p long some h = cc
 
--- it is valid where the record is
+-- the first block of a record is valid where the record is
 pub first-stands : (image : Image) (w : ℕ) → kind_of w ≡ 2 → stands_in image w ≡ true → stands_in image (first_word w) ≡ true
 unfolding stands stands_as_blocks byte_size block_size
 first-stands image w kind st =

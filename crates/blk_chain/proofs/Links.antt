@@ -1,4 +1,4 @@
--- A record linked in front of its chain, in bytes.
+-- A record linked at the head of its chain, in bytes.
 use Rattle.std.proofs.Common.{◌≡◌, ⊎_elim, ℕ, ◌+◌, ◌%◌, ◌^◌, ◌<◌, ◌≤◌, true, false, ◌∷◌, map, Some, refl, sym, ◌∙◌, ap, subst, arith}
 use Rattle.std.specs.Prelude.{◌==◌, ◌||◌, ◌/◌}
 use Rattle.std.specs.Option.{ForSome}

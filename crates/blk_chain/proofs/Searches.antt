@@ -21,7 +21,7 @@ use Rattle.blk_chain.proofs.Heads.{named-some, named-sought, sought-named}
 use Rattle.blk_chain.specs.declared.found.Found.{Found}
 use Rattle.blk_disk.specs.declared.tables.BlockFiles.{BlockFiles}
 
--- the front of the chain of a key
+-- the head of the chain of a key
 pub front-is : (image : Image) (key : List ℕ) (hash word : ℕ) → hash ≡ hash_of key → word ≡ bucket_of (byte image Index) (hash % 65536) → word ≡ (store_of image).table (bucket_of_key key)
 unfolding store_of
 front-is image key hash word same read = read ∙ ap (λ (h : ℕ). bucket_of (byte image Index) (h % 65536)) same
@@ -66,7 +66,7 @@ module _ (image : Image) (key : List ℕ) (is_child : Bool) where
   b : ℕ
   b = bucket_of_key key
 
-  -- at the front of the chain nothing is passed
+  -- at the head of the chain nothing is passed
   pub way-begun : (word : ℕ) → CanBeSearched key image → word ≡ (store_of image).table (bucket_of_key key) → IsOnTheWay key is_child word None 131073 image
   way-begun word can prefix = record {
     passed = [];
@@ -98,7 +98,7 @@ module _ (image : Image) (key : List ℕ) (is_child : Bool) where
       all-here : chained_for (store_of image) key ≡ way.passed ++ word ∷ next.suffix
       all-here = way.all ∙ ap (λ (l : List ℕ). way.passed ++ l) next.is
 
-      -- another word names a record that checks and has a key
+      -- another word names a record that has a key and a checksum that matches or is absent
       pub way-keyed : CanBeSearched key image → IsKeyed word image
       way-keyed can =
           let shown = shown-of (store_of image) (bucket_of_key key) word next.good in
@@ -109,7 +109,7 @@ module _ (image : Image) (key : List ℕ) (is_child : Bool) where
             key = can.keys word (subst (λ (words : List ℕ). is_among words word ≡ true) (sym all-here) (middle-there way.passed word next.suffix));
           }
 
-      -- it is passed where it has another name
+      -- the record is passed where it has another name
       pub way-on : (link : ℕ) (fewer : ℕ) → link ≡ (store_of image).chain_next word → (HasKey (store_of image) key is_child word → ⊥) → fewer + 1 ≡ left → IsOnTheWay key is_child link (Some word) fewer image
       way-on link fewer follows other less = record {
         passed = way.passed ++ word ∷ [];
@@ -124,7 +124,7 @@ module _ (image : Image) (key : List ℕ) (is_child : Bool) where
         few = let few = way.few in let size : length way.rest ≡ suc (length next.suffix) = ap length next.is in omega (arith, few, size, less);
       }
 
-      -- it is found where it has the name
+      -- the record is found where it has the name
       pub way-found : HasKey (store_of image) key is_child word → IsFound key is_child word before image
       way-found named =
           let place = ends way.passed before next.suffix (chained_for (store_of image) key) word way.last all-here in

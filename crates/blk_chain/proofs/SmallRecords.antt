@@ -38,7 +38,7 @@ module _ {image : Image} {w : ℕ} {fields : RecordFields} {next : ℕ} {key : L
   unfolding store_of stored_key
   its-key = rw (says.short, says.in_place, says.bytes) refl
 
-  -- it has the key
+  -- the record has the key
   pub says-key : HasKey (store_of image) key (fields.flags == child) w
   says-key = record { fields = fields; here = says.here; hashed = says.hashed; key = its-key; flag = refl }
 
@@ -47,14 +47,14 @@ module _ {image : Image} {w : ℕ} {fields : RecordFields} {next : ℕ} {key : L
   unfolding key_at store_of
   says-readable long = record { key = key; is = rw (says.here, long) its-key }
 
-  -- it is of the bucket of its hash
+  -- the record is of the bucket of its hash
   pub says-bucket : bucket_at image w ≡ bucket_of_hash (hash key)
   says-bucket = ap bucket_of_hash (ap (λ (f : RecordFields). f.hash) (shown-fields image w fields says.here) ∙ says.hashed)
 
   pub says-of_bucket : (bucket : ℕ) → (bucket_of_hash fields.hash == bucket) ≡ true → is_of_bucket (store_of image) bucket w ≡ true
   says-of_bucket bucket same = rw (says.here, says.checks) same
 
-  -- and the next one of its chain is that of its bytes
+  -- the next of the record in its chain is that of its bytes
   pub says-next : (store_of image).chain_next w ≡ next
   says-next = shown-chain_next image w fields says.here ∙ says.next_is
 

@@ -233,7 +233,7 @@ module _ (from : Image) (bytes : AreBytes from) (entry before : ℕ) (can : CanB
         ),
       )
 
--- the record before checks in its bytes
+-- the bytes of the record before have a checksum that matches or is absent
 pub before_checks : (from : Image) (bytes : AreBytes from) (entry before : ℕ) → CanBeUnlinked entry (Some before) from → RecordChecks before from
 before_checks from bytes entry before can =
     let shown = shown-before from bytes entry before can in

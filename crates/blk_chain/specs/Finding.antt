@@ -41,7 +41,7 @@ abbrev pub up_to : List ℕ → Option ℕ → List ℕ
 up_to prefix None = prefix
 up_to prefix (Some before) = prefix ++ before ∷ []
 
--- the search result: the record has this key and child flag, it comes after `before` in its chain (or is the first), and no record in front of it has both
+-- the search result: the record has this key and child flag, it comes after `before` in its chain (or is the first), and no record before it has both
 pub record IsFound (key : List ℕ) (is_child : Bool) (entry : ℕ) (before : Option ℕ) (image : Image) : Type 0 where
   pub has_key : HasKey (store_of image) key is_child entry
   pub prefix : List ℕ
@@ -120,7 +120,7 @@ pub record IsDanglingLink (files : BlockFiles) (bucket : ℕ) (damage : Damage) 
   pub some : damage.found ≢ 0
   pub dangling : is_record_among files damage.found ≡ false
 
--- a search has passed one record more than it follows, and the chain goes on; the error has the link behind the last one
+-- a search has passed one record more than it follows, and the chain goes on; the error has the link after the last one
 pub record IsTooLong (files : BlockFiles) (told : Told) (key : List ℕ) (is_child : Bool) (damage : Damage) : Type 0 where
   pub last : ℕ
   pub stands : is_record_among files last ≡ true
@@ -158,7 +158,7 @@ pub record IsFaultOfLink (bucket : ℕ) (before : Option ℕ) (found : ℕ) (fau
   pub link : IsOfLink bucket before damage
   pub of_word : damage.found ≡ found
 
--- the outcome of one step of a search at word w: its valid record, or the link behind it
+-- the outcome of one step of a search at word w: its valid record, or the link after it
 abbrev pub IsStepAt : BlockFiles → ℕ → Step → Type 0
 IsStepAt files w (Here entry) = (entry ≡ w) × (is_record_among files w ≡ true)
 IsStepAt files w (On link) = (link.before ≡ Some w) × (is_record_among files w ≡ true)

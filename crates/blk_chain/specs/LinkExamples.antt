@@ -15,7 +15,7 @@ pub record FirstCanBeLinked : Type 0 where
   pub chained : chained_with image entry ≡ []
   pub linkable : CanBeLinked entry image
 
--- there is a folder with a chain of one record that has another record which can be linked in front of it
+-- there is a folder with a chain of one record that has another record which can be linked at the head of it
 pub record NextCanBeLinked : Type 0 where
   pub image : Image
   pub entry : ℕ

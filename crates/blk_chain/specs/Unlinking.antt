@@ -32,7 +32,7 @@ abbrev pub without_record : Option ℕ → List ℕ → List ℕ → List ℕ
 without_record None prefix suffix = suffix
 without_record (Some before) prefix suffix = prefix ++ before ∷ suffix
 
--- precondition of unlinking: the chain of the record is whole, and `before` is the record in front of it there, or None if it is the first
+-- precondition of unlinking: the chain of the record is whole, and `before` is the record before it there, or None if it is the first
 pub record CanBeUnlinked (entry : ℕ) (before : Option ℕ) (image : Image) : Type 0 where
   pub whole : IsWholeChain (store_of image) (bucket_at image entry)
   pub prefix : List ℕ

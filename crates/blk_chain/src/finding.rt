@@ -27,7 +27,7 @@ use blk_record::{EntryFlags, EntryView, IndexHead, super_fast_hash};
 // The most records that a search passes.
 const MOST_RECORDS: u32 = 131_073;
 
-// Where a search is: at a word, after the record that has it as its next, or at the front of a chain.
+// Where a search is: at a word, after the record that has it as its next, or at the head of a chain.
 #[derive(Clone, Copy)]
 struct Link {
     word: u32,
@@ -55,9 +55,8 @@ enum Step {
 /// length and child flag agree is the key read too: by one call, or by two where it has more than 16398
 /// bytes and the first of them are the same. So no record costs more than three calls.
 ///
-/// A failed check is a read that gave too few bytes, a word of the chain that names no record that is there, a record
-/// that doesn't check or whose key has a wrong length or place, or a chain that goes on after 131073 records: then the
-/// word that would be followed is found. Nothing is written.
+/// A failed check is a read that gave too few bytes, a word of the chain that names no record that is there, a record with a wrong checksum or whose key has a
+/// wrong length or place, or a chain that goes on after 131073 records: then the word that would be followed is found. Nothing is written.
 pub fn find<F: Folder>(
     f: &mut F,
     files: &BlockFiles,

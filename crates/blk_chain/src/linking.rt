@@ -1,4 +1,4 @@
-// Records that are linked in front of a chain.
+// Records that are linked at the head of a chain.
 ghost use Rattle.std.specs.Prelude.{◌≡◌, ◌≤◌, IsTrue, None, OnOk};
 ghost use Rattle.std.specs.Option.{ForSome};
 ghost use Rattle.spec_image.specs.Image.{Block as block, HasRange};
@@ -18,7 +18,7 @@ use blk_index::set_bucket;
 use blk_io::{Fault, Folder};
 use blk_record::{EntryView, IndexHead};
 
-/// Links a record in front of the chain of its bucket: the word of the bucket names it from then on.
+/// Links a record at the head of the chain of its bucket: the word of the bucket names it from then on.
 ///
 /// The record is complete, and its next is the word of the bucket. One folder call reads its hash, and one writes the
 /// word. Too few bytes are corruption, and nothing is written.

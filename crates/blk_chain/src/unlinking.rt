@@ -72,9 +72,8 @@ fn unlink_first<F: Folder>(folder: &mut F, files: &BlockFiles, entry: Addr) -> R
 /// Takes a record out of its chain: what named it, the word of its bucket or the next of the record
 /// before it, takes its next.
 ///
-/// One folder call reads the next. At the front of a chain one reads the hash and one writes the word; else the record
-/// before is read and changed by a sealed update. Too few bytes, or a record before that doesn't check, are corruption,
-/// and nothing is written.
+/// One folder call reads the next. At the head of a chain one reads the hash and one writes the word; else the record before is read and changed by
+/// `update_sealed`. Too few bytes, or a wrong checksum of the record before, are corruption, and nothing is written.
 pub fn unlink<F: Folder>(f: &mut F, files: &BlockFiles, found: &Found) -> Result<(), Fault>
     requires kind { kind_of found.now.entry ≡ blocks_256 }
     requires stands { IsTrue (stands_among files.now found.now.entry) }
@@ -86,17 +85,19 @@ pub fn unlink<F: Folder>(f: &mut F, files: &BlockFiles, found: &Found) -> Result
     ensures unlinked { OnOk result (ForSome (F.told f.old).files (λ from. CanBeUnlinked found.now.entry found.now.before from → ForSome (F.told f.new).files (IsUnlinked from found.now.entry found.now.before))) }
     ensures loses { OnOk result (ForSome (F.told f.old).files (λ from. CanBeUnlinked found.now.entry found.now.before from → ForSome (F.told f.new).files (LosesOne from found.now.entry found.now.before))) }
 
-    // A record before had checked, and is the old one with that next, sealed.
+    // The checksum of a record before matched or was absent; that record is the old one with that next, and with its new checksum.
     ensures checked { OnOk result (ForSome (F.told f.old).files (BeforeChecks found.now.before)) }
     ensures sealed { OnOk result (ForSome (F.told f.old).files (λ from. ForSome (F.told f.new).files (IsSealedAgain from found.now.entry found.now.before))) }
     ensures is_open { ForSome (F.told f.new).files (IsOpen files.now) }
     ensures steps { OnOk result (ForSome (F.told f.old).files (λ from. Applies (F.told f.old) (F.told f.new) (unlink_steps from found.now.entry found.now.before))) }
     ensures prefix { MakesPartOf (F.told f.old) (F.told f.new) (λ from. unlink_steps from found.now.entry found.now.before) }
 
-    // Until that one word is written the chains are the old ones, and from then on the record is unlinked; each record checks as before.
+    // Until that one word is written the chains are the old ones, and from then on the record is unlinked; the checksum of each record matches or is absent, as
+    // before.
     ensures commits { ForSome (F.told f.old).files (λ from. CanBeUnlinked found.now.entry found.now.before from → Commits (words_to_unlink found.now.before) (F.told f.old) (F.told f.new) (IsStillLinked from found.now.entry found.now.before) (IsUnlinked from found.now.entry found.now.before)) }
 
-    // A failed check is a short read or a record before that doesn't check, and nothing was written. An observable folder gives one only for such a record.
+    // A failed check is a short read or a wrong checksum of the record before, and nothing was written. An observable folder reports one only for such a
+    // record.
     ensures damaged { IfDamaged result (IsUnlinkDamage (F.told f.old) found.now.entry found.now.before) }
     ensures unwritten { IfDamaged result (λ _. Stays (F.told f.old) (F.told f.new)) }
     ensures untold { ForSome (F.told f.old).files (BeforeChecks found.now.before) → IfDamaged result (λ _. (F.told f.old).files ≡ None) }

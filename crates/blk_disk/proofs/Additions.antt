@@ -86,7 +86,7 @@ next_is kind n f below new = let numbers = new.numbers in omega (arith, numbers)
 pub this_is : (kind n : ℕ) (f : ℕ → ℕ) → n < 256 → IsNew kind n f → this_file_of f ≡ n
 this_is kind n f below new = let numbers = new.numbers in omega (arith, numbers)
 
--- its checks hold, whatever was met
+-- the checks of a new header hold, whatever was met
 pub new_passes : (kind n : ℕ) (f : ℕ → ℕ) (size : ℕ) → n < 256 → size ≡ 8192 → IsNew kind n f → (met : List ℕ) (left : ℕ) → first_of (file_checks kind met left n f size) ≡ None
 unfolding is_block_count
 new_passes kind n f size below is new met left =

@@ -324,7 +324,7 @@ module _ (n size : ℕ) (from : Image) (longer : length_of from (Block n) ≤ si
       (λ image here. let same : from ≡ image = some_inj (sym there ∙ here) in
       subst (λ (i : Image). P i × P (applied (SetLength (Block n) size) i)) same (holds from longer_step.0, holds _ longer_step.1))
 
--- a call that lengthened the file, and then raised its numbers
+-- a call that lengthened the file, and then wrote its larger numbers
 module _ (files : BlockFiles) (n : ℕ) (a b d : Told) (agrees : ForSome a.files (Agrees files)) (among : is_among (all_files files) n ≡ true) (below : blocks_of files n < 64896) where
   abbrev lengthened : List TrailStep
   lengthened = lengthen_steps files n (grown_length files n)

@@ -24,7 +24,7 @@ link_room met count next holds = by_test (next == 0) refl
     by_test true e = tt
     by_test false e = grind (arith, nat_tests)
 
--- and it has a number that links have
+-- a link has a number that links have
 pub link_number : (kind : ℕ) (met : List ℕ) (left next : ℕ) → is_link met left next ≡ true → MayBeNext kind (next_of next)
 unfolding is_link
 link_number kind met left next holds = by_test (next == 0) refl

@@ -167,7 +167,7 @@ blocks_kind B256 block_kind = refl
 blocks_kind B1K block_kind = refl
 blocks_kind B4K block_kind = refl
 
--- a call that failed to load the next file, whatever the folder tells
+-- a call failed to load the next file, of an observable or an opaque folder
 pub caused_if : (A B : Type 0) (e : Fault) (a b : Told) (files : BlockFiles) (k : Kind) (n : ℕ) → kind_number k ≢ 0 → IsFileNumber (kind_number k) n → b ≡ a → IfDamaged {A = A} (Err e) (IsHeaderDamage b files (kind_number k) n) → IfDamaged {A = B} (Err e) (IsLoadDamage a)
 caused_if A B Device a b files k n block_kind number stays cause = tt
 caused_if A B (Damaged d) a b files k n block_kind number stays cause = record {

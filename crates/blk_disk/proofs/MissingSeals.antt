@@ -1,4 +1,4 @@
--- A record gets its seal, where that is missing.
+-- A record gets its checksum, where that is absent.
 use Rattle.std.proofs.Common.{◌≡◌, ℕ, ◌+◌, ◌%◌, ◌≤◌, Bool, true, false, if◌then◌else◌, List, [], ◌∷◌, Option, None, Some, refl, sym, ◌∙◌, ap, ap₂, subst, arith}
 use Rattle.std.specs.Option.{ForSome}
 use Rattle.std.proofs.lemmas.List.Elements.{All-cons, All-nil}
@@ -34,7 +34,7 @@ missing_quiet : (w : ℕ) (missing : Option ℕ) → IsQuiet (missing_steps w mi
 missing_quiet w None = tt
 missing_quiet w (Some seal) = quiet-word_step (Block (file_selector w)) (place w + seal_place w) seal refl
 
--- the seal lies in the record
+-- the checksum lies in the record
 missing_outside : (w : ℕ) (missing : Option ℕ) (from : Image) → Along (SameOutside (record_range w) from) from (missing_steps w missing)
 unfolding word_step
 missing_outside w None from = outside-refl (record_range w) from

@@ -19,7 +19,7 @@ use Rattle.blk_disk.specs.Tables.{stands_among, files_of, all_files, blocks_of, 
 use Rattle.blk_disk.proofs.Among.{all_files_among}
 use Rattle.blk_disk.proofs.Standings.{not_external}
 
--- both, and the second of both
+-- where both of two tests hold, the first and the second hold
 first_of_two : (a b : Bool) → (a && b) ≡ true → a ≡ true
 first_of_two true b e = refl
 first_of_two false b e = e
@@ -45,13 +45,13 @@ inside_part files w stands =
     let test : nat_le (place w + byte_size w) (length_in files (file_selector w)) ≡ true = second_of_two (is_linked_as (kind_among (files_of files) (file_selector w)) (kind_of w) && nat_le (first_block w + block_count w) (blocks_of files (file_selector w))) (nat_le (place w + byte_size w) (length_in files (file_selector w))) stands in
     grind (arith, nat_tests)
 
--- it is of blocks
+-- an address that is valid by the tables is one of blocks
 pub stands_blocky : (files : BlockFiles) (w : ℕ) → stands_among files w ≡ true → kind_of w ≢ external
 stands_blocky files w stands same =
     differ (is_linked_as (kind_among (files_of files) (file_selector w)) (kind_of w)) (linked_part files w stands)
     (ap (is_linked_as (kind_among (files_of files) (file_selector w))) same ∙ not_external (files_of files) (file_selector w))
 
--- its file is linked
+-- a file that is linked as some kind is among all files
 linked_among : (files : BlockFiles) (n kind : ℕ) → is_linked_as (kind_among (files_of files) n) kind ≡ true → is_among (all_files files) n ≡ true
 unfolding kind_among files_of
 linked_among files n kind holds = all_files_among files n ∙ by_tests (is_among files.rankings.items n) (is_among files.b256.items n) (is_among files.b1k.items n) (is_among files.b4k.items n) holds
@@ -84,7 +84,7 @@ stands_range files image w at n agrees stands within =
     let inside = inside_part files w stands in
     omega (arith, size, inside)
 
--- its space
+-- a block has at most 4096 bytes
 pub size_small : (kind : ℕ) → block_size kind ≤ 4096
 unfolding block_size
 size_small kind = by_tests (kind == 1) (kind == 2) (kind == 3)

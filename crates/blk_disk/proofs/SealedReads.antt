@@ -1,4 +1,4 @@
--- A record that is read, and its seal.
+-- A record that is read, and its checksum.
 use Rattle.std.proofs.Common.{◌≡◌, ◌≢◌, ℕ, ◌+◌, Bool, true, false, if◌then◌else◌, List, Option, None, Some, refl, sym, ◌∙◌, ap, ap₂, add-zero}
 use Rattle.std.specs.Prelude.{◌||◌, ◌==◌}
 use Rattle.std.specs.Option.{ForSome}
@@ -12,12 +12,12 @@ use Rattle.blk_io.specs.declared.folder.FileId.TheVariants as names
 use Rattle.spec_format.specs.Sealed.{record_size, seal_place, record_at, RecordChecks}
 use Rattle.blk_disk.specs.Unsealed.{wrong_seal, IsUnsealed}
 
--- the bytes that are read from the front of the blocks are the record
+-- the bytes that are read from the start of the blocks are the record
 pub record_read : (image : Image) (w n : ℕ) (bytes : List ℕ) → n ≡ record_size w → bytes ≡ range_at (byte image (Block (file_selector w))) (place w + 0) n → bytes ≡ record_at image w
 unfolding record_at
 record_read image w n bytes size is = is ∙ ap₂ (λ (at n : ℕ). range_at (byte image (Block (file_selector w))) at n) (add-zero (place w)) size
 
--- a record with a wrong seal
+-- a record with a wrong checksum: it is neither 0 nor the hash of the bytes before it
 pub record IsWrong (s found : ℕ) (bytes : List ℕ) : Type 0 where
   pub fails : checks s bytes ≡ false
   pub seal : found ≡ word_at (content bytes) s
@@ -42,7 +42,7 @@ wrong_is s found bytes is = by_test (checks s bytes) refl is
           unlike = λ zero. let z : word_at (content bytes) s ≡ 0 = sym same ∙ zero in clash (0 == seal_of s bytes) (sym (ap (λ (n : ℕ). (n == 0) || (n == seal_of s bytes)) z) ∙ e);
         }
 
--- the error has the seal
+-- the error has the checksum that was found
 pub unsealed_is : (told : Told) (w s found : ℕ) (bytes : List ℕ) (damage : Damage) → s ≡ seal_place w → wrong_seal s bytes ≡ Some found → damage.file ≡ names.Block (file_selector w) → damage.at ≡ place w + s → damage.found ≡ found
     → ForSome told.files (λ image. bytes ≡ record_at image w) → IsUnsealed told w damage
 unsealed_is told w s found bytes damage place_is wrong file at is read =
@@ -57,7 +57,7 @@ unsealed_is told w s found bytes damage place_is wrong file at is read =
       );
     }
 
--- an observable folder gives a record that checks
+-- where the record's checksum matches or is absent, only an opaque folder reports it as wrong
 pub untold_unsealed : (told : Told) (w : ℕ) (damage : Damage) → IsUnsealed told w damage → ForSome told.files (RecordChecks w) → told.files ≡ None
 untold_unsealed told w damage unsealed checks = by_files told.files refl
   where
@@ -68,6 +68,6 @@ untold_unsealed told w damage unsealed checks = by_files told.files refl
     by_files None there = there
     by_files (Some image) there = absurd (clash (sym (checks image there) ∙ (unsealed.unsealed image there).1))
 
--- a record that was read and checks
+-- a record that was read, and whose checksum matches or is absent
 pub read_checks : (image : Image) (w s n : ℕ) (bytes : List ℕ) → s ≡ seal_place w → n ≡ record_size w → bytes ≡ range_at (byte image (Block (file_selector w))) (place w + 0) n → checks s bytes ≡ true → RecordChecks w image
 read_checks image w s n bytes place_is size read holds = sym (ap₂ (λ (k : ℕ) (b : List ℕ). checks k b) place_is (record_read image w n bytes size read)) ∙ holds

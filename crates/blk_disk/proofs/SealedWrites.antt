@@ -1,4 +1,4 @@
--- The words of a sealed update are written, in part or whole.
+-- The words of an update of a record under a checksum 0 are written, in part or whole.
 use Rattle.std.proofs.Common.{◌≡◌, ℕ, ◌+◌, ◌*◌, ◌%◌, ◌≤◌, true, List, [], ◌∷◌, ◌++◌, All, refl, sym, ◌∙◌, ap, ap₂, subst, arith, add-zero, None, Some, ⊎_elim}
 use Rattle.std.specs.Option.{ForSome}
 use Rattle.std.proofs.lemmas.List.Elements.{All-cons, All-push, All-map}
@@ -32,11 +32,11 @@ place_aligned w begins =
     (λ (entry : kind_of w ≡ 2). rw entry (let h : (8192 + first_block w * 256) % 4 ≡ 0 = omega arith in h))
     begins
 
--- each change is a word before the seal
+-- each change is a word before the checksum
 changes_before : (w : ℕ) (changes : List (ℕ × ℕ)) → AreChanges (seal_place w) changes → All (λ c. c.0 + 4 ≤ seal_place w) changes
 changes_before w changes are k d within = omega (arith, are.aligned k d within, are.before k d within, seal_aligned (kind_of w))
 
--- what holds of the seal and of each change
+-- what holds of the checksum and of each change
 update_all : (P : ℕ × ℕ → Type 0) (s seal : ℕ) (changes : List (ℕ × ℕ)) → ((v : ℕ) → P (s, v)) → All P changes → All P (update_words s changes seal)
 update_all P s seal changes at_seal at_changes = All-cons P (s, 0) (changes ++ (s, seal) ∷ []) (at_seal 0) (All-push P changes (s, seal) at_changes (at_seal seal))
 
@@ -81,7 +81,7 @@ module _ (files : BlockFiles) (w : ℕ) (changes : List (ℕ × ℕ)) (stands : 
   quiet seal = quiet-word_steps (Block (file_selector w)) (placed (place w) (update_words (seal_place w) changes seal)) tt
 
   module _ (a b : Told) (seal : ℕ) (agrees : ForSome a.files (Agrees files)) where
-    -- the moments from an image whose new seal this is
+    -- the moments from an image whose record gets this checksum
     along : (from : Image) → a.files ≡ Some from → RecordChecks w from → seal ≡ new_seal from w changes → Along (IsMidUpdate from w changes) from (update_steps w changes seal)
     along from there good is = subst (λ (v : ℕ). Along (IsMidUpdate from w changes) from (update_steps w changes v)) (sym is) (moments w from changes (fits from (agrees from there)) good (changes_before w changes are))
 
@@ -110,11 +110,11 @@ module _ (files : BlockFiles) (w : ℕ) (changes : List (ℕ × ℕ)) (stands : 
         (λ image kept. agrees_still (record_range w) from image (spares w) kept files (λ n. refl) (agrees from there))
         (words_stay w words from from (update_all (λ c. c.0 ≤ seal_place w) (seal_place w) seal changes (λ v. omega arith) (λ k d within. omega (arith, changes_before w changes are k d within))) (outside-refl (record_range w) from)))
 
--- the seal that was found for some bytes
+-- the checksum that was found for some bytes
 pub seal_is : (w kind seal : ℕ) (bytes : List ℕ) (changes : List (ℕ × ℕ)) → kind ≡ kind_of w → seal ≡ seal_of (seal_by_kind kind) (with_words changes bytes) → seal ≡ seal_of (seal_place w) (with_words changes bytes)
 seal_is w kind seal bytes changes is_kind is = is ∙ ap (λ (k : ℕ). seal_of (seal_by_kind k) (with_words changes bytes)) is_kind
 
--- is the one of the image whose record they are
+-- the checksum that was found for a record's bytes is the one of the image that has them
 pub seal_from : (image : Image) (w seal : ℕ) (bytes : List ℕ) (changes : List (ℕ × ℕ)) → bytes ≡ record_at image w → seal ≡ seal_of (seal_place w) (with_words changes bytes) → seal ≡ new_seal image w changes
 unfolding new_seal
 seal_from image w seal bytes changes read is = is ∙ ap (λ (b : List ℕ). seal_of (seal_place w) (with_words changes b)) read
@@ -140,7 +140,7 @@ module _ (w : ℕ) (changes : List (ℕ × ℕ)) (bytes : List ℕ) (a m b : Tol
   pub updated_read : ForSome m.files (λ from. bytes ≡ record_at from w → ForSome b.files (IsUpdated from w changes)) → ForSome a.files (λ from. ForSome b.files (IsUpdated from w changes))
   updated_read updated from there = updated from (still from there) (read from there)
 
--- a record that checks at each moment checks in the end
+-- where a record's checksum matches or is absent at each moment, it is so in the end
 pub checks_after : (w : ℕ) (changes : List (ℕ × ℕ)) (a b : Told) → (a.files ≡ None → b.files ≡ None) → ForSome a.files (λ from. RecordChecks w from → Passes a b (IsMidUpdate from w changes)) → ForSome a.files (RecordChecks w) → ForSome b.files (RecordChecks w)
 checks_after w changes a b silent stops good =
     told_at_end a.files b.files (RecordChecks w) silent (λ from there image here. (passes_end (stops from there (good from there)) image here).checks)

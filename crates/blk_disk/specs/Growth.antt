@@ -38,11 +38,11 @@ new_groups blocks = (grown blocks - blocks) / 4
 unfoldable pub grown_length : BlockFiles → ℕ → ℕ
 grown_length files n = header_size + grown (blocks_of files n) * size_as (kind_among (files_of files) n)
 
--- the counter of wholly free groups in the header of file n, raised by so many modulo 2 ^ 32
+-- the counter of wholly free groups in the header of file n, increased by so many modulo 2 ^ 32
 abbrev pub raised : Image → ℕ → ℕ → ℕ
 raised image n groups = (empty_of (byte image (Block n)) 3 + groups) % 2 ^ 32
 
--- the steps that raise the counter of wholly free groups by so many, and then set the number of blocks
+-- the steps that increase the counter of wholly free groups by so many, and then set the number of blocks
 abbrev pub raise_steps : Image → ℕ → ℕ → ℕ → List TrailStep
 raise_steps image n groups blocks = word_steps (Block n) ((empty_place 3, raised image n groups) ∷ (blocks_place, blocks) ∷ [])
 
@@ -94,7 +94,7 @@ header_words kind n = (magic_place, block_magic) ∷ (version_place, block_versi
 abbrev pub file_steps : ℕ → ℕ → List TrailStep
 file_steps kind n = SetLength (Block n) 0 ∷ SetLength (Block n) header_size ∷ word_steps (Block n) (header_words kind n)
 
--- the step by which file n is linked behind the last file of its kind: the two bytes of its next_file
+-- the step by which file n is linked after the last file of its kind: the two bytes of its next_file
 abbrev pub link_steps : ℕ → ℕ → List TrailStep
 link_steps last n = Word (Block last) next_file_place (n % 256 ∷ n / 256 % 256 ∷ []) ∷ []
 

@@ -44,7 +44,7 @@ abbrev pub AnswersFileHeader : Option checks.Damage → (ℕ → ℕ) → ℕ �
 AnswersFileHeader None f size given answer = AreGiven size given → (head : Head) × (answer ≡ Ok head) × IsFileHead f size head
 AnswersFileHeader (Some damage) f size given answer = AreGiven size given → (found : Damage) × (answer ≡ Err (Damaged found)) × (damage_of found ≡ damage)
 
--- how many more files of a kind may be linked behind the next one
+-- how many more files of a kind may be linked after the next one
 abbrev pub files_left : BlockFiles → ℕ → ℕ
 files_left files kind = most_files - 1 - length (files_of files kind)
 
@@ -104,11 +104,11 @@ AnswersNextHead files image kind n (Ok head) = (first_of (next_checks files imag
 AnswersNextHead files image kind n (Err Device) = Unit {0}
 AnswersNextHead files image kind n (Err (Damaged damage)) = first_of (next_checks files image kind n) ≡ Some (damage_of damage)
 
--- the checks of an image's block files of all kinds behind this one
+-- the checks of an image's block files of all kinds after this one
 abbrev pub checks_after : Image → ℕ → List (Option checks.Damage)
 checks_after image kind = flat_map (checks_of_kind image) (drop kind block_kinds)
 
--- the checks that are still to be made of an image: those from the next file of a kind on, and those of the kinds behind it
+-- the checks that are still to be made of an image: those from the next file of a kind on, and those of the kinds after it
 abbrev pub checks_from : BlockFiles → Image → ℕ → Option ℕ → List (Option checks.Damage)
 checks_from files image kind None = checks_after image kind
 checks_from files image kind (Some n) = checks_along image kind (all_files files) (files_left files kind) n ++ checks_after image kind

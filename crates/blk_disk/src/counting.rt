@@ -4,7 +4,7 @@ ghost use Rattle.std.specs.Prelude.{◌≡◌, ◌<◌, ◌+◌};
 use std::marker::Model;
 use std::sync::ledger::{Blank, Book, Ledger, Share};
 
-/// A counter of the map words that were read, without bytes at run time. Only `BlockFiles::map_word` raises it.
+/// A counter of the map words that were read, without bytes at run time. Only `BlockFiles::map_word` increases it.
 #[derive(Drop)]
 pub struct Steps<L: Ledger> {
     book: Book<L>,

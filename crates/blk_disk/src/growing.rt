@@ -22,10 +22,9 @@ const EMPTY_GROUPS: u64 = BlockHead::EMPTY + 12;
 impl BlockFiles {
     /// Gives a linked file of fewer than 64896 blocks 1024 more, or 384 for the last time.
     ///
-    /// First the file gets as long as they need, where it is shorter. Then the counter of groups that are wholly empty
-    /// is raised by the number of new ones, modulo 2^32, and at last the number of blocks is written. `Failed` comes
-    /// only where the folder failed in this call; a prefix of the steps has then lasted, and what is kept of the files
-    /// is as before.
+    /// First the file gets as long as they need, where it is shorter. Then the counter of groups that are wholly empty rises by the number of new ones, modulo
+    /// 2^32, and at last the number of blocks is written. `Failed` comes only where the folder failed in this call; a prefix of the steps was then made, and
+    /// the table is as before.
     pub fn grow<F: Folder>(&mut self, f: &mut F, file: u8) -> Result<(), Failed>
         requires linked { IsTrue (is_among (all_files self.old) file) }
         requires below { blocks_of self.old file < most_blocks }
@@ -78,7 +77,7 @@ impl BlockFiles {
     }
 }
 
-// Raises the counter of empty groups of a file, and then writes its number of blocks.
+// Increases the counter of empty groups of a file, and then writes its number of blocks.
 //
 // Bytes of the counter that the folder doesn't give count as 0.
 fn raise<F: Folder>(folder: &mut F, file: u8, groups: u32, blocks: u32) -> Result<(), Failed>

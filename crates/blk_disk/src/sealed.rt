@@ -1,4 +1,4 @@
-// Sealed records at the front of blocks, and their updates.
+// Records with checksums at the start of blocks, and their updates.
 ghost use Rattle.std.specs.Prelude.{[], ◌≡◌, ◌+◌, ◌^◌, ◌<◌, ◌≤◌, IsTrue, None, OnErr, OnOk, length};
 ghost use Rattle.std.specs.Option.{ForSome};
 ghost use Rattle.spec_image.specs.Steps.{with_words};
@@ -23,18 +23,16 @@ use blk_addr::{Addr, Kind};
 use blk_io::{Damage, Failed, Fault, Folder, write_word, write_words};
 use blk_record::{EntryMut, EntryView, NodeMut, NodeView, Record, RecordMut, super_fast_hash};
 
-// The seal twice, and four changes.
+// The checksum twice, and four changes.
 const MOST_WORDS: usize = 6;
 
 impl BlockFiles {
-    /// Changes at most four words of the sealed record at the front of an address's blocks: of a node,
-    /// or of an entry record. Each change is a place in bytes from the front of the record, before the
-    /// seal, and the new word; no two are of one place.
+    /// Changes at most four words of the record at the start of an address's blocks: of a node, or of an entry record. Each change is an offset in bytes from
+    /// the start of the record, before the checksum, and the new word; no two are of one offset.
     ///
-    /// The record is read by one folder call. Then its seal becomes 0, the words are written in the order given, and
-    /// the seal becomes the hash: words that lie side by side by one call. A record that has too few bytes or doesn't
-    /// check is corruption, and nothing is written. `Device` comes only where the folder failed in this call; a prefix
-    /// of the words has then lasted.
+    /// The record is read by one folder call. Then its checksum becomes 0, the words are written in the order given, and the checksum becomes the hash: words
+    /// that lie side by side by one call. Too few bytes of a record or a wrong checksum are corruption, and nothing is written. `Device` comes only where the
+    /// folder failed in this call; a prefix of the words has then lasted.
     pub fn update_sealed<F: Folder>(
         &self,
         f: &mut F,
@@ -52,12 +50,11 @@ impl BlockFiles {
         ensures steps { OnOk result (ForSome (F.told f.old).files (λ from. Applies (F.told f.old) (F.told f.new) (sealed_steps from addr changes.now))) }
         ensures prefix { MakesPartOf (F.told f.old) (F.told f.new) (λ from. sealed_steps from addr changes.now) }
 
-        // At each word of an update of a record that checks, it still checks and has a prefix of the changes, and nothing else has
+        // If the record's checksum matches or is absent, that is so at each word of the update; the record has a prefix of the changes, and nothing else has
         // changed.
         ensures stops { ForSome (F.told f.old).files (λ from. RecordChecks addr from → Passes (F.told f.old) (F.told f.new) (IsMidUpdate from addr changes.now)) }
 
-        // A failed check is a short read or a record that doesn't check, and nothing was written. An observable folder gives one only for a record that doesn't
-        // check.
+        // A failed check is a short read or a wrong checksum, and nothing was written. An observable folder reports one only for a wrong checksum.
         ensures damaged { IfDamaged result (IsFailedRecord (F.told f.old) addr (record_size addr)) }
         ensures unwritten { IfDamaged result (λ _. Stays (F.told f.old) (F.told f.new)) }
         ensures untold { ForSome (F.told f.old).files (RecordChecks addr) → IfDamaged result (λ _. (F.told f.old).files ≡ None) }
@@ -74,11 +71,9 @@ impl BlockFiles {
         Ok(())
     }
 
-    /// Reads the sealed record at the front of an address's blocks, of a node or of an entry record, by one
-    /// folder call.
+    /// Reads the record at the start of an address's blocks, of a node or of an entry record, by one folder call.
     ///
-    /// Too few bytes and a record that doesn't check are failed checks. `Device` comes only where the folder failed in
-    /// this call.
+    /// Too few bytes and a wrong checksum are failed checks. `Device` comes only where the folder failed in this call.
     pub fn read_record<F: Folder>(
         &self,
         folder: &mut F,
@@ -103,8 +98,8 @@ impl BlockFiles {
         Err(Fault::Damaged(Damage { file, at, found }))
     }
 
-    /// Changes at most four words of a sealed record that was read, as `update_sealed` does, but without a
-    /// read: the caller has its bytes, and gets them as they are afterwards.
+    /// Changes at most four words of a record that was read, as `update_sealed` does, but without a read: the caller has its bytes, and gets them as they are
+    /// afterwards.
     ///
     /// `Failed` comes only where the folder failed in this call; a prefix of the words has then lasted.
     pub fn update_record<F: Folder>(
@@ -125,8 +120,8 @@ impl BlockFiles {
         ensures steps { OnOk result (Applies (F.told folder.old) (F.told folder.new) (steps_over bytes.old addr changes.now)) }
         ensures prefix { AppliesPrefix (F.told folder.old) (F.told folder.new) (steps_over bytes.old addr changes.now) }
 
-        // At each word of an update of a record that has these bytes and checks, it still checks and has a prefix of the changes, and nothing else has
-        // changed.
+        // If the record has these bytes and its checksum matches or is absent, that is so of the checksum at each word of the update; the record has a prefix
+        // of the changes, and nothing else has changed.
         ensures stops { ForSome (F.told folder.old).files (λ from. bytes.old ≡ record_at from addr → RecordChecks addr from → Passes (F.told folder.old) (F.told folder.new) (IsMidUpdate from addr changes.now)) }
         ensures later { F.faults folder.old ≤ F.faults folder.new }
         ensures failed { OnErr result (Rises (F.faults folder.old) (F.faults folder.new)) }
@@ -135,11 +130,10 @@ impl BlockFiles {
         self.write_update(folder, addr, changes, seal)
     }
 
-    /// Seals the record at the front of an address's blocks: its seal becomes the hash of the bytes before it.
+    /// Gives the record at the start of an address's blocks its checksum, the hash of the bytes before it.
     ///
-    /// The record is read by one folder call, and one word is written where the seal isn't the hash yet. A record that
-    /// has too few bytes or doesn't check is corruption, and nothing is written. `Device` comes only where the folder
-    /// failed in this call; the word may then be written.
+    /// The record is read by one folder call, and one word is written where the checksum isn't the hash yet. Too few bytes of a record or a wrong checksum are
+    /// corruption, and nothing is written. `Device` comes only where the folder failed in this call; the word may then be written.
     pub fn seal<F: Folder>(&self, folder: &mut F, addr: Addr) -> Result<(), Fault>
         requires stands { IsTrue (stands_among self.now addr) }
         requires begins { BeginsWithRecord addr }
@@ -150,7 +144,7 @@ impl BlockFiles {
         ensures steps { OnOk result (ForSome (F.told folder.old).files (λ from. Applies (F.told folder.old) (F.told folder.new) (seal_steps from addr))) }
         ensures prefix { MakesPartOf (F.told folder.old) (F.told folder.new) (λ from. seal_steps from addr) }
 
-        // Before and after the word the record checks with its fields, and nothing else has changed.
+        // Before and after the word the record has its fields and a checksum that matches or is absent, and nothing else has changed.
         ensures stops { ForSome (F.told folder.old).files (λ from. RecordChecks addr from → Passes (F.told folder.old) (F.told folder.new) (IsMidUpdate from addr [])) }
         ensures damaged { IfDamaged result (IsFailedRecord (F.told folder.old) addr (record_size addr)) }
         ensures unwritten { IfDamaged result (λ _. Stays (F.told folder.old) (F.told folder.new)) }
@@ -165,7 +159,7 @@ impl BlockFiles {
         Ok(())
     }
 
-    // Writes a seal, where it is missing.
+    // Writes a checksum, where it is absent.
     fn write_seal<F: Folder>(
         &self,
         folder: &mut F,
@@ -187,7 +181,7 @@ impl BlockFiles {
         write_word(folder, file_of(addr), at, seal)
     }
 
-    // Writes the words of an update, this seal last.
+    // Writes the words of an update, this checksum last.
     fn write_update<F: Folder>(
         &self,
         folder: &mut F,
@@ -221,7 +215,7 @@ fn size_of(kind: Kind) -> usize
     }
 }
 
-// The place of the seal in a record.
+// The place of the checksum in a record.
 #[tactic(auto, unfolding(spec_format::specs::Sealed::seal_by_kind))]
 fn seal_of(kind: Kind) -> u32
     ensures place { result ≡ seal_by_kind (kind_number kind) }
@@ -233,7 +227,7 @@ fn seal_of(kind: Kind) -> u32
     }
 }
 
-// The seal of a record, where it doesn't check.
+// The checksum of a record, where it is wrong.
 #[tactic(auto, unfolding(spec_format::specs::Sealed::size_by_kind, spec_format::specs::Sealed::seal_by_kind))]
 fn wrong_seal(kind: Kind, bytes: &[u8]) -> Option<u32>
     requires { length bytes.now ≡ size_by_kind (kind_number kind) }
@@ -255,7 +249,7 @@ fn wrong_seal(kind: Kind, bytes: &[u8]) -> Option<u32>
     }
 }
 
-// The seal of a record that has it at this place, where it doesn't check.
+// The checksum of a record that has it at this place, where it is wrong.
 fn wrong_seal_at<R: Record>(view: &R, at: usize) -> Option<u32>
     requires place { at ≡ R.seal_place }
     requires inside { IsField R.size at }
@@ -268,7 +262,7 @@ fn wrong_seal_at<R: Record>(view: &R, at: usize) -> Option<u32>
     }
 }
 
-// The hash of a record, where its seal isn't that.
+// The hash of a record, where its checksum isn't that.
 #[tactic(auto, unfolding(spec_format::specs::Sealed::size_by_kind, spec_format::specs::Sealed::seal_by_kind))]
 fn missing_seal(kind: Kind, bytes: &[u8]) -> Option<u32>
     requires { length bytes.now ≡ size_by_kind (kind_number kind) }
@@ -280,7 +274,7 @@ fn missing_seal(kind: Kind, bytes: &[u8]) -> Option<u32>
     }
 }
 
-// The hash of a record that has its seal at this place, where the seal isn't that.
+// The hash of a record that has its checksum at this place, where the checksum isn't that.
 fn missing_seal_at<R: Record>(view: &R, at: usize) -> Option<u32>
     requires inside { IsField R.size at }
     ensures { result ≡ unsealed.missing_seal at (R.window_of view.now) }
@@ -293,7 +287,7 @@ fn missing_seal_at<R: Record>(view: &R, at: usize) -> Option<u32>
     }
 }
 
-// Changes a record and seals it, and gives its seal.
+// Changes a record, gives it its checksum, and answers that.
 #[tactic(auto, unfolding(spec_format::specs::Sealed::size_by_kind, spec_format::specs::Sealed::seal_by_kind))]
 fn seal_after(kind: Kind, bytes: &mut [u8], changes: &[(u32, u32)]) -> u32
     requires size { length bytes.old ≡ size_by_kind (kind_number kind) }
@@ -307,7 +301,7 @@ fn seal_after(kind: Kind, bytes: &mut [u8], changes: &[(u32, u32)]) -> u32
     }
 }
 
-// Changes a record whose seal is at a place, seals it, and gives its seal.
+// Changes a record whose checksum is at a place, gives it its checksum, and answers that.
 fn change<R: RecordMut>(view: &mut R, place: usize, changes: &[(u32, u32)]) -> u32
     requires inside { IsField R.size place }
     requires changes { AreChanges place changes.now }

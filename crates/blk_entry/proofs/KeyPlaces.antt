@@ -38,7 +38,7 @@ use Rattle.blk_entry.specs.declared.keys.KeyPlace.{KeyPlace}
 use Rattle.blk_entry.specs.Keys.{IsCut, IsCutKey, IsCutPart, IsCutPiece, IsPlaced, data_name, IsPiece, IsPlaceOfKey, AreKeyBytes, HasData, HasKeyBytes, key_bytes, data_range, data_file, data_start, data_at, held, key_at, key_address, bytes_before, is_short, may_have, may_hold, stores, IsInside, IsInFile, IsRecordHead, HasReadableKey}
 use Rattle.blk_entry.proofs.Windows.{entry_room}
 
--- two numbers that a test tells apart
+-- two numbers are different where the test whether they are equal fails
 pub of_other : (a b : ℕ) → (a == b) ≡ false → a ≢ b
 of_other a b e same = absurd (none (sym e ∙ ap (λ (k : ℕ). a == k) (sym same) ∙ self a))
   where
@@ -66,7 +66,7 @@ pub data_in_external : (image : Image) (w at n : ℕ) → kind_of w ≡ external
 unfolding data_file data_start
 data_in_external image w at n is there = rw is (⊎_elim (λ (h : at + n ≤ length_of image (External (external_number w))). inl (omega (arith, h))) (λ (none : n ≡ 0). inr none) there)
 
--- and their range
+-- the range of bytes that are in a file
 pub range_of_blocks : (w at n : ℕ) → kind_of w ≢ external → range (Block (file_selector w)) (place w + at) n ≡ data_range w at n
 unfolding data_range data_file data_start
 range_of_blocks w at n block_kind = let t : (kind_of w == external) ≡ false = grind (arith, nat_tests) in rw t refl
@@ -261,7 +261,7 @@ long_inside files w k most holds =
 
 -- The key of a record, as the view has it.
 
--- the front, and the end, of a range
+-- a prefix of a range, and its end
 pub take-range : (k m i : ℕ) (f : ℕ → ℕ) → k ≤ m → take k (range_at f i m) ≡ range_at f i k
 unfolding range_at
 take-range zero m i f less = refl

@@ -1,4 +1,4 @@
--- The dirty word of a node at each moment of its change, and after it.
+-- The dirty flag of a node at each moment of its change, and after it.
 use Rattle.std.proofs.Common.{◌≡◌, ◌≢◌, inl, inr, ⊎_elim, ℕ, ◌+◌, ◌*◌, ◌%◌, ◌^◌, ◌<◌, ◌≤◌, [], take, refl, sym, ◌∙◌, ap, ap₂, subst, true, arith}
 use Rattle.std.proofs.lemmas.List.Elements.{All-nil, All-cons}
 use Rattle.spec_image.specs.Bytes.{content, word_at, long_at, range_at}
@@ -26,7 +26,7 @@ use Rattle.spec_format.proofs.SealedRecords.{moment_before}
 use Rattle.blk_entry.proofs.NewShown.{stands_as_kind, stands_here}
 use Rattle.blk_entry.specs.Marks.{dirty_change, plain_node, SetsDirtyInProgress, HasDirtySet}
 
--- one word before the seal of a node is changed
+-- one word before the checksum of a node is changed
 pub mark_changes : (w mark : ℕ) → kind_of w ≡ rankings → AreChanges (seal_place w) (dirty_change mark)
 mark_changes w mark kind = record {
   few = omega arith;
@@ -52,7 +52,7 @@ alike f g i same = record {
   contents = same 24 (i + 24) refl refl (omega arith);
 }
 
--- nodes that are alike are one but for the dirty word and the seal
+-- nodes that are alike are one but for the dirty flag and the checksum
 plain-alike : (f g : ℕ → ℕ) (i : ℕ) → AreAlike f g i → plain_node (node_in g i) ≡ plain_node (node_in f i)
 unfolding node_in
 plain-alike f g i a = λ k. record {
@@ -65,12 +65,12 @@ plain-alike f g i a = λ k. record {
   self_hash = 0;
 }
 
--- the front of a record as a range
+-- a prefix of a record is a range
 prefix_of_range : (f : ℕ → ℕ) (i : ℕ) → take 32 (range_at f i 36) ≡ range_at f i 32
 unfolding range_at
 prefix_of_range f i = refl
 
--- a node that is alike but for its dirty word, and whose seal is the hash of its bytes
+-- a node that is alike but for its dirty flag, and whose checksum is the hash of its bytes
 sealed-alike : (f g : ℕ → ℕ) (i mark : ℕ) → AreAlike f g i → word_at g (i + 28) ≡ mark → ((k : ℕ) → g k < 256) → word_at g (i + 32) ≡ hash (range_at g i 32) → node_in g i ≡ sealed_node (record (node_in f i) { dirty = mark })
 unfolding node_in node_body
 sealed-alike f g i mark a dirty below seal =
@@ -89,7 +89,7 @@ sealed-alike f g i mark a dirty below seal =
       self_hash = 0;
     }
 
--- a node that is there and whose record checks is a good one
+-- a node that is there, and whose checksum matches or is absent, is a good one
 node_good : (image : Image) (w mark : ℕ) → AreBytes image → stands_in image w ≡ true → kind_of w ≡ rankings → RecordChecks w image → IsNode image w
 unfolding list_of checks_at
 node_good image w mark below standing kind good =
@@ -97,7 +97,7 @@ node_good image w mark below standing kind good =
     let sound : node_checks (node_at image w) ≡ true = node-checks image image w (dirty_change mark) below (moment_before w image (dirty_change mark) good) kind in
     record { good = rw (st, sound) refl; bytes = below }
 
--- what it says
+-- what a node that is there says
 node_says : (image : Image) (w : ℕ) → stands_in image w ≡ true → kind_of w ≡ rankings → (store_of image).node_fields w ≡ Some (record { contents = (node_at image w).contents; dirty = (node_at image w).dirty })
 unfolding store_of node_fields_at
 node_says image w standing kind = let st : stands_as image rankings w ≡ true = stands_as_kind image w rankings standing kind in rw st refl
@@ -112,7 +112,7 @@ module _ (from image : Image) (w mark : ℕ) (kind : kind_of w ≡ rankings) (sm
   here : (i : Image) (q : ℕ) → q + 4 ≤ 36 → word_at (content (record_at i w)) q ≡ word i (Block (file_selector w)) (place w + q)
   here i q inside = let size : record_size w ≡ 36 = node_bytes w kind in record_word i w q (omega (arith, size, inside))
 
-  -- a moment of a sealed update of the dirty word of a node that is there
+  -- a moment of an update of the dirty flag of a node that is there, under a checksum 0
   pub marking_at : (files : BlockFiles) → Agrees files from → stands_among files w ≡ true → is_address w ≡ true → AreBytes from → RecordChecks w from → IsMidUpdate from w (dirty_change mark) image → SetsDirtyInProgress from w mark image
   unfolding node_in
   marking_at files agrees st address below good moment = record {

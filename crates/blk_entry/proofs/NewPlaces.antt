@@ -63,7 +63,7 @@ long_is_inside files w k most holds =
       room = λ block_kind. let h = storage_room (k + 1) w (omega arith) p.0 block_kind in omega (arith, h);
     }
 
--- the same of a key in its record
+-- the bytes of a key in its record, and its zero byte, are there
 pub short_is_inside : (files : BlockFiles) (w k : ℕ) → kind_of w ≡ blocks_256 → stands_among files w ≡ true → block_count w ≡ entry_blocks k → is_short k ≡ true → IsInside files w 96 (k + 1)
 short_is_inside files w k kind stands blocks short =
     let less : k ≤ 927 = grind (arith, nat_tests) in

@@ -43,7 +43,7 @@ with_words-more ws i d bytes within = ap (λ (l : List (ℕ × ℕ)). with_words
 -- An entry record without streams.
 
 module _ (h next node moment key_len long_key flags : ℕ) where
-  -- before it is sealed
+  -- the new record before it gets its checksum
   unfoldable pub plain_record : Entry
   plain_record = record {
     hash = h;
@@ -108,7 +108,7 @@ module _ (h next node moment key_len long_key flags : ℕ) where
       self_hash = there 92 (i + 92) seal (omega arith) refl small_seal refl k;
     }
 
-  -- its bytes check
+  -- the bytes of the new record have a checksum that matches
   pub record_checks : (bytes : List ℕ) → bytes ≡ entry_bytes (sealed_entry plain_record) → checks 92 bytes ≡ true
   unfolding plain_record entry_bytes entry_body
   record_checks bytes is = ap (checks 92) is ∙ or_right _ _ (eq-eqb _ _ (sealed_word (hash (entry_body plain_record)) (hash_small (entry_body plain_record))))

@@ -30,7 +30,7 @@ use Rattle.spec_image.proofs.Runs.{told_whole}
 use Rattle.blk_entry.proofs.NewPlaces.{length_kept}
 use Rattle.blk_entry.proofs.Windows.{not_external}
 
--- a record and a node that are sealed check
+-- a new record and a new node have their checksums, so these match
 pub record_is_good : (new : NewEntry) (key : List ℕ) (moment : ℕ) → entry_checks (new_record new key moment) ≡ true
 unfolding entry_checks entry_is_sealed new_record
 record_is_good new key moment = or_right ((new_record new key moment).self_hash == 0) _ (eq-eqb (new_record new key moment).self_hash _ refl)
@@ -78,12 +78,12 @@ pub flags_is : (new : NewEntry) (key : List ℕ) (moment : ℕ) → (new_record 
 unfolding new_record
 flags_is new key moment = refl
 
--- its long key and its streams
+-- the record's long key and its streams
 others_are : (new : NewEntry) (key : List ℕ) (moment : ℕ) → (new_record new key moment).long_key ∷ (new_record new key moment).data_addr ≡ unwrap_or new.long_key 0 ∷ 0 ∷ 0 ∷ 0 ∷ 0 ∷ []
 unfolding new_record
 others_are new key moment = refl
 
--- a record that checks loads as what it says
+-- a record whose checksum matches or is absent loads as what it says
 pub checked_loads : (store : StoreView) (node contents dirty : ℕ) (fields : RecordFields) (answer : Result Loaded Reason) → fields.checks ≡ true → load_record store (unchained_rule entry_normal) node contents dirty fields ≡ answer
     → (demand fields.checks reason.Seal >>= (λ _. load_record store (unchained_rule entry_normal) node contents dirty fields)) ≡ answer
 checked_loads store node contents dirty fields answer good is = ap (λ (b : Bool). demand b reason.Seal >>= (λ _. load_record store (unchained_rule entry_normal) node contents dirty fields)) good ∙ is

@@ -153,7 +153,7 @@ module _ (files : BlockFiles) (new : NewEntry) (key : List ℕ) (moment : ℕ) (
       let few2 = index.few in
       changed.1 ∙ ap Some (written_fields s (record_at from new.entry) long (omega (arith, few1)) (omega (arith, few2)) first.word index.word ∙ ap (λ (f : RecordFields). with_streams f s) was)
 
-  -- its node says the same
+  -- the node of the new record says the same
   node_now : (store_of image).node_fields new.node ≡ Some (record { contents = new.entry; dirty = new.dirty })
   node_now = sym (changed.0.rest.node_fields new.node) ∙ shown.node_fields
 

@@ -38,7 +38,7 @@ pub record IsEntryOf (key : List ℕ) (entry : ℕ) (image : Image) : Type 0 whe
   pub hash : (entry_at image entry).hash ≡ hash_of key
   pub is : key_at image entry ≡ Some key
 
--- a read of a key from `place` on gave `count` bytes, as many as there are and as fit, at the front of the buffer, whose rest is unchanged
+-- a read of a key from `place` on gave `count` bytes, as many as there are and as fit, at the start of the buffer, whose rest is unchanged
 pub record IsPiece (key : List ℕ) (place : ℕ) (old new : List ℕ) (count : ℕ) : Type 0 where
   pub many : count ≡ min (length old) (length key - place)
   pub front : take count new ≡ take count (drop place key)
@@ -230,7 +230,7 @@ pub record IsPlaceOfKey (entry key_len long_key : ℕ) (place : KeyPlace) : Type
   pub skip : place.skip ≡ bytes_before key_len
   pub len : place.len ≡ key_len
 
--- n bytes of the data at address w, behind the first `before`, lie inside its blocks, which are valid; of an external file only the numbers are bounded
+-- n bytes of the data at address w, after the first `before`, lie inside its blocks, which are valid; of an external file only the numbers are bounded
 pub record IsInside (files : BlockFiles) (w before n : ℕ) : Type 0 where
   pub small : before + n < 2 ^ 32
   pub stands : kind_of w ≢ external → stands_among files w ≡ true

@@ -50,7 +50,7 @@ pub record SetsDirty {A : Type 0} (files : BlockFiles) (old new : Told) (node ma
   pub marked : OnOk result (ForSome old.files (λ from. ForSome new.files (HasDirtySet from node mark)))
   pub checks : ForSome old.files (RecordChecks node) → ForSome new.files (RecordChecks node)
   pub agrees : ForSome new.files (Agrees files)
-  -- its steps; and what holds after each single write, where the node's checksum matched or was absent
+  -- the steps of the call, and what holds after each single write, where the node's checksum matched or was absent
   pub steps : OnOk result (ForSome old.files (λ from. Applies old new (mark_steps from node mark)))
   pub prefix : ForSome old.files (λ from. AppliesPrefix old new (mark_steps from node mark))
   pub stops : ForSome old.files (λ from. RecordChecks node from → Passes old new (SetsDirtyInProgress from node mark))

@@ -37,13 +37,13 @@ pub fn key_equals<F: Folder>(
     ensures bytes { IfOk result (λ same. ForSome (F.told f.old).files (λ image. IsTrue same ↔ HasBytesOf key.now entry image)) }
     ensures equal { IfOk result (λ same. ForSome (F.told f.old).files (λ image. HasReadableKey entry image → IsTrue same ↔ IsEntryOf key.now entry image)) }
 
-    // The record checks; where hash and length are the key's, the key has a place; where it is the same, its bytes are in the file.
+    // The record's checksum matches or is absent; where hash and length are the key's, the key has a place; where it is the same, its bytes are in the file.
     ensures checked { OnOk result (ForSome (F.told f.old).files (HasRecord entry)) }
     ensures placed { OnOk result (ForSome (F.told f.old).files (λ image. (entry_at image entry).hash ≡ hash_of key.now → (entry_at image entry).key_len ≡ length key.now → HasKeyPlace files.now entry image)) }
     ensures there { IfOk result (λ same. IsTrue same → ForSome (F.told f.old).files (HasKeyBytes entry 0 (length key.now))) }
     ensures reads { ReadsOnly F.told F.faults f.old f.new (IfDevice result) }
 
-    // An observable folder reports corruption only where the record doesn't check or has no key to read.
+    // An observable folder reports corruption only where the record has a wrong checksum or no key to read.
     ensures damaged { IfDamaged result (IsKeyDamage files.now (F.told f.old) entry (length key.now)) }
     ensures untold { ForSome (F.told f.old).files (CanBeRead files.now entry) → IfDamaged result (λ _. (F.told f.old).files ≡ None) }
 {

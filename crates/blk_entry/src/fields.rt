@@ -19,7 +19,7 @@ use blk_disk::BlockFiles;
 use blk_io::{Fault, Folder};
 use blk_record::EntryView;
 
-/// The word of an entry record at a place in bytes from its front, a multiple of 4 below 96.
+/// The word of an entry record at an offset in bytes from its start, a multiple of 4 below 96.
 ///
 /// One folder call reads it. Too few bytes are corruption.
 pub fn field<F: Folder>(f: &mut F, files: &BlockFiles, entry: Addr, at: u32) -> Result<u32, Fault>

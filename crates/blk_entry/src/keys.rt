@@ -55,12 +55,11 @@ pub(crate) struct KeyPlace {
     pub(crate) len: u32,
 }
 
-/// Copies a piece of an entry's key into the front of `out`: the bytes from a place on, as many as
-/// there are and as fit. The number of them is given, which is 0 at or past the key's end.
+/// Copies a piece of an entry's key into a prefix of `out`: the bytes from a place on, as many as there are and as fit. The number of them is given, which is 0
+/// at or past the key's end.
 ///
-/// One folder call reads the record, and one the piece. A failed check is a read that gave too few bytes, a record that
-/// doesn't check, a length that the key can't have, or the word of a long key that isn't a valid address which stores
-/// the key.
+/// One folder call reads the record, and one the piece. A failed check is a read that gave too few bytes, a wrong checksum of the record, a length that the key
+/// can't have, or the word of a long key that isn't a valid address which stores the key.
 pub fn key_piece<F: Folder>(
     f: &mut F,
     files: &BlockFiles,
@@ -76,13 +75,13 @@ pub fn key_piece<F: Folder>(
     ensures bytes { IfOk result (λ n. ForSome (F.told f.old).files (λ image. IsPiece (key_bytes image entry) at out.old out.new n)) }
     ensures piece { IfOk result (λ n. ForSome (F.told f.old).files (λ image. ForSome (key_at image entry) (λ key. IsPiece key at out.old out.new n))) }
 
-    // The record checks, its key has a place, and the piece is in the file.
+    // The record's checksum matches or is absent, its key has a place, and the piece is in the file.
     ensures checked { OnOk result (ForSome (F.told f.old).files (HasRecord entry)) }
     ensures placed { OnOk result (ForSome (F.told f.old).files (HasKeyPlace files.now entry)) }
     ensures there { IfOk result (λ n. ForSome (F.told f.old).files (λ image. HasKeyBytes entry (min at (entry_at image entry).key_len) n image)) }
     ensures reads { ReadsOnly F.told F.faults f.old f.new (IfDevice result) }
 
-    // An observable folder reports corruption only where the record doesn't check or has no key to read.
+    // An observable folder reports corruption only where the record has a wrong checksum or no key to read.
     ensures damaged { IfDamaged result (keys.IsPartDamage files.now (F.told f.old) entry at (length out.old)) }
     ensures untold { ForSome (F.told f.old).files (CanBeRead files.now entry) → IfDamaged result (λ _. (F.told f.old).files ≡ None) }
 {
@@ -97,7 +96,7 @@ pub fn key_piece<F: Folder>(
 
 /// Reads the words of a record that say what it is, by one folder call.
 ///
-/// A failed check is a read that gave too few bytes, or a record that doesn't check.
+/// A failed check is a read that gave too few bytes, or a wrong checksum of the record.
 pub fn read_head<F: Folder>(folder: &mut F, files: &BlockFiles, entry: Addr) -> Result<Head, Fault>
     requires kind { kind_of entry ≡ blocks_256 }
     requires stands { IsTrue (stands_among files.now entry) }
@@ -105,7 +104,7 @@ pub fn read_head<F: Folder>(folder: &mut F, files: &BlockFiles, entry: Addr) -> 
     ensures checked { OnOk result (ForSome (F.told folder.old).files (HasRecord entry)) }
     ensures reads { ReadsOnly F.told F.faults folder.old folder.new (IfDevice result) }
 
-    // An observable folder reports corruption only for a record that doesn't check.
+    // An observable folder reports corruption only for a wrong checksum of the record.
     ensures damaged { IfDamaged result (IsHeadDamage (F.told folder.old) entry) }
     ensures untold { ForSome (F.told folder.old).files (Agrees files.now) → ForSome (F.told folder.old).files (RecordChecks entry) → IfDamaged result (λ _. (F.told folder.old).files ≡ None) }
 {

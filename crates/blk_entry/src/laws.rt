@@ -2,8 +2,8 @@
 ghost use Rattle.blk_entry.specs.Covering.{NewClaimsAreSingle, NewPlacesAreCovered, NewPlacesAreShownApart};
 ghost use Rattle.blk_entry.specs.Parts.{WrittenPartsLoad};
 
-/// The node, the record and the long key of a new entry lie in the blocks and files that it claims, none of which is claimed twice; a change inside them
-/// changes the view only there.
+/// The node, the record and the long key of a new entry lie in the blocks and files that it uses, none of which is used twice; a change inside them changes the
+/// view only there.
 pub fn new_entries_are_shown_apart()
     ensures covered { NewPlacesAreCovered }
     ensures apart { NewPlacesAreShownApart }

@@ -1,4 +1,4 @@
-//! Entries: their records, keys and dirty marks.
+//! Entries: their records, keys and dirty flags.
 #![tactic(auto)]
 
 mod compare;

@@ -1,4 +1,4 @@
-// The dirty marks of nodes.
+// The dirty flags of nodes.
 ghost use Rattle.std.specs.Prelude.{◌≡◌, ◌≢◌, ◌≤◌, IsTrue};
 ghost use Rattle.std.specs.Option.{ForSome};
 ghost use Rattle.spec_image.specs.Told.{Rises};
@@ -14,8 +14,8 @@ use blk_record::NodeView;
 
 /// Sets the dirty flag of a node to a number that isn't 0.
 ///
-/// The node is read by one folder call. Then its seal becomes 0, and by one call more the mark is written and the seal
-/// after it becomes the hash. A node that has too few bytes or doesn't check is corruption, and nothing is written.
+/// The node is read by one folder call. Then its checksum becomes 0, and by one call more the dirty flag is written and the checksum after it becomes the hash.
+/// Too few bytes of a node or a wrong checksum are corruption, and nothing is written.
 pub fn set_dirty<F: Folder>(
     f: &mut F,
     files: &BlockFiles,
@@ -45,7 +45,7 @@ pub fn set_clean<F: Folder>(f: &mut F, files: &BlockFiles, node: Addr) -> Result
     set_dirty_word(f, files, node, 0)
 }
 
-// Makes the dirty word of a node this one.
+// Sets the dirty flag of a node to this word.
 fn set_dirty_word<F: Folder>(
     folder: &mut F,
     files: &BlockFiles,

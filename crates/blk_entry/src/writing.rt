@@ -41,7 +41,7 @@ pub struct NewEntry {
     pub long_key: Option<Addr>,
     /// Whether the entry is a part of a sparse one.
     pub child: bool,
-    /// The dirty mark of the node, or 0.
+    /// The dirty flag of the node, which is 0 in a clean one.
     pub dirty: u32,
     /// The word of the next record in the chain, or 0.
     pub next: u32,
@@ -49,9 +49,8 @@ pub struct NewEntry {
 
 /// Writes a new entry: the key with one zero byte after it, then the record, then the node.
 ///
-/// The record has no streams, and the moment is its time and both times of the node. Record and node are sealed. Four
-/// folder calls write the key, the zero byte, the record and the node, each once. Nothing is read, so no failed check
-/// is found. The external file of a long key has its length already.
+/// The record has no streams, and the moment is its time and both times of the node. Record and node get their checksums. Four folder calls write the key, the
+/// zero byte, the record and the node, each once. Nothing is read, so no failed check is found. The external file of a long key has its length already.
 pub fn write_entry<F: Folder>(
     f: &mut F,
     files: &BlockFiles,
@@ -252,7 +251,7 @@ fn node_of(new: &NewEntry, moment: u64) -> [u8; NodeView::SIZE]
     filled_node(&words)
 }
 
-// A record of these words, each at its place, and zeros else, with its seal.
+// A record of these words, each at its place, and zeros else, with its checksum.
 fn filled_record(words: &[(usize, u32)]) -> [u8; BLOCK]
     requires fields { All (λ word. IsField records.entry_size word.0) words.now }
     ensures { result ≡ sealed.sealed records.entry_seal_place (with_words words.now (zeros 256)) }
@@ -272,7 +271,7 @@ fn filled_node(words: &[(usize, u32)]) -> [u8; NodeView::SIZE]
     bytes
 }
 
-// Writes words into a record, each at its place, and seals it.
+// Writes words into a record, each at its place, and gives it its checksum.
 fn fill<R: RecordMut>(view: &mut R, words: &[(usize, u32)])
     requires fields { All (λ word. IsField R.size word.0) words.now }
     ensures window { R.window_of view.new ≡ sealed.sealed R.seal_place (with_words words.now (R.window_of view.old)) }

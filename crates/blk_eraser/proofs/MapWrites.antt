@@ -32,7 +32,7 @@ pub frees_some : (old : List ℕ) (place : ℕ) (new : List ℕ) (b k : ℕ) →
     → frees old place new b ≡ (is_one (content old (80 + b / 8)) b && not (is_one (content new k) b))
 frees_some old place new b k is here inside = ap (λ (v : ℕ). is_one (content old (80 + b / 8)) b && not (is_one v b)) (content-spliced_inside place new old k (80 + b / 8) is here inside)
 
--- the byte of the map that tells of a block
+-- the byte of the map that has the bit of a block
 map_byte : (b : ℕ) → b < 64896 → 80 + b / 8 < 8192
 map_byte b few = omega arith
 
@@ -151,7 +151,7 @@ header_says (Block n) image header place new long is read known inside =
         let d : content header 15 ≡ byte image (Block n) 15 = at 15 (lit< tt) in
         cc (a, b, c, d)
 
--- no block before those that the bytes of a write tell of is freed
+-- no block before those whose bits are in the bytes of a write is freed
 pub none_before : (old : List ℕ) (place : ℕ) (new : List ℕ) (file : File) (size long n : ℕ) → n ≡ 8 * (place - 80) → zeros_over_blocks (frees old place new) file size long n ≡ []
 none_before old place new file size long n is =
     let all : n ≡ 0 + n = omega arith in

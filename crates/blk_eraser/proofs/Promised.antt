@@ -18,7 +18,7 @@ use Rattle.blk_eraser.proofs.Leaving.{bytes_after}
 use Rattle.blk_eraser.proofs.Unlinked.{blocks_found}
 use Rattle.blk_eraser.proofs.UnlinkedFiles.{files_unlinked}
 
--- what a word claims the list claims in which it is
+-- what an address uses is used by a list that has the address
 among_all : (unlinked : List ℕ) (w : ℕ) (c : Claim) → is_among unlinked w ≡ true → has_claim (claims_of w) c ≡ true → has_claim (claims_of_all unlinked) c ≡ true
 among_all [] w c among has = absurd (let z : false ≡ true = among in cc)
 among_all (x ∷ unlinked) w c among has = claim-append (claims_of x) (claims_of_all unlinked) c ∙ go (x == w) refl among (among_all unlinked w c)
@@ -56,7 +56,7 @@ promised_frees unlinked w from image n place new p =
     let frees : FreesUnlinked unlinked image n place new = of_word unlinked w from image n place new p in
     (frees, blocks_found unlinked from image n place new p.midst.stays frees)
 
--- an external address claims its file
+-- an external address uses its file
 claims_itself : (m : ℕ) → has_claim (ExternalOf m ∷ []) (ExternalOf m) ≡ true
 unfolding has_claim
 claims_itself m = ap (λ (t : Bool). t || false) (eq-eqb m m refl)

@@ -40,7 +40,7 @@ module _ (claims : Claims) (image : Image) (n place : ℕ) (new : List ℕ) (men
   abbrev behind : ℕ → Bool
   behind b = is_block_marked_at (content (spliced place new (bytes_of image (Block n)))) b
 
-  -- nothing that is kept claims a block that is freed
+  -- no block that is freed has an owner that is kept
   unclaimed : EachFreed (λ b. has_claim (claims_of_loaded (kept image)) (BlockOf n b) ≡ false) image n place new
   unclaimed b below e =
       let parts = and_parts (is_block_marked_at (content (bytes_of image (Block n))) b) (not (behind b)) e in

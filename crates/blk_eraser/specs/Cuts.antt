@@ -42,12 +42,12 @@ pub record AreOfDirty (state : State) (layout : Layout) (w : ℕ) : Type 0 where
   pub node_apart : IsClear (has_claim (claims_of w)) (layout.place (main key))
   pub record_apart : IsClear (has_claim (claims_of w)) loaded.contents
 
--- while zeros are written behind the end of a stream of a dirty object, recovery gives the durable contents of the state that was kept
+-- while zeros are written after the end of a stream of a dirty object, recovery gives the durable contents of the state that was kept
 abbrev pub CutZerosFindTheSame : Type 0
 CutZerosFindTheSame = (state : State) (layout : Layout) (unlinked : List ℕ) (from image : Image) (w size : ℕ) → KeepsUncounted state layout unlinked from → AreOfDirty state layout w → AreBlocksInHand from image w
     → size ≤ byte_size w → Along (Finds (rest state)) image (zeros_after_end w size)
 
--- while zeros are written behind the end of a stream of a doomed object, recovery gives the durable contents of the state that was kept
+-- while zeros are written after the end of a stream of a doomed object, recovery gives the durable contents of the state that was kept
 abbrev pub DoomedCutZerosFindTheSame : Type 0
 DoomedCutZerosFindTheSame = (state : State) (layout : Layout) (unlinked : List ℕ) (from image : Image) (w size number : ℕ) (object : Object) → KeepsUncounted state layout unlinked from → object_at state number ≡ Some object → object.live ≡ false
     → IsFreeBut (layout.place_of_doomed number) (has_claim (claims_of w)) layout → AreBlocksInHand from image w

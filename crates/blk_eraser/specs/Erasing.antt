@@ -59,6 +59,6 @@ delete_steps image file = words file 0 (zeros (length_of image file)) ++ (Delete
 abbrev pub MakesSteps : Told → Told → (Image → List TrailStep) → Type 0
 MakesSteps old new steps = ForSome old.files (λ image. Applies old new (steps image))
 
--- the folder's next file behind `after` is `next`, in an observable folder
+-- the folder's next file after `after` is `next`, in an observable folder
 abbrev pub TellsNext : Told → Option File → Option File → Type 0
 TellsNext told after next = ForSome told.files (λ image. IsNextFile image after next)

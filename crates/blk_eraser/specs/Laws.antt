@@ -98,7 +98,7 @@ UnlinkedFilesMayBeErased = (unlinked : List ℕ) (image : Image) (n : ℕ) → h
 
 -- From the contracts of the calls that free to what the lemmas ask.
 
--- the write into a map of file n turns its marks from those of image `from` into those of image `done`
+-- the write into a map of file n changes its marks from those of image `from` to those of image `done`
 pub record WritesMarks (n : ℕ) (from done image : Image) (place : ℕ) (new : List ℕ) : Type 0 where
   pub before : (b : ℕ) → b < most_blocks → is_block_marked image n b ≡ is_block_marked from n b
   pub behind : (b : ℕ) → b < most_blocks → is_block_marked (after (words (Block n) place new) image) n b ≡ is_block_marked done n b

@@ -69,8 +69,8 @@ pub fn bytes_after_the_end_are_not_shown()
     ensures { BytesAfterTheEndAreNotShown }
 {}
 
-/// Where recovery rebuilds a map from the claims of what is kept, and deletes an external file that nothing kept claims, the kept entries and the recovered
-/// contents are the same at each of the zeros before that.
+/// Where recovery rebuilds a map from the used blocks of what is kept, and deletes an external file that has no owner that is kept, the kept entries and the
+/// recovered contents are the same at each of the zeros before that.
 pub fn recovery_may_erase()
     ensures maps { RemadeMapsMayErase }
     ensures files { UnkeptFilesMayErase }

@@ -20,7 +20,7 @@ pub(crate) const HEADER_LEN: usize = 8192;
 /// The place of the map in a header.
 pub(crate) const MAP: usize = 80;
 
-/// The blocks that a byte of a map tells of.
+/// The blocks that have their bits in one byte of a map.
 pub(crate) const BITS_OF_BYTE: usize = 8;
 
 // Whether a bit of a byte is 1.

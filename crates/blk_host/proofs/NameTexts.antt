@@ -1,4 +1,4 @@
--- Which file a name can belong to, by its front.
+-- Which file a name can belong to, by its prefix.
 use Rattle.std.proofs.Common.{◌≡◌, ◌≢◌, true, false, ℕ, List, ◌++◌, None, drop, get_or, arith, refl, ◌∙◌, sym, ap, codes}
 use Rattle.std.specs.Str.{bytes_eq}
 use Rattle.std.proofs.lemmas.Slice.Eq.{bytes_eq-Decides}
@@ -68,7 +68,7 @@ external-named (Block n) number e there P goal = absurd (differs e)
         unequal first = grind (arith)
 external-named (External n) number e there P goal = goal n there (ap (λ (l : List ℕ). drop 2 l) e)
 
--- a name with none of the three fronts is no file's
+-- a name that isn't `index`, and has none of the prefixes `data_` and `f_`, is no file's
 pub none-named : (file : FileId) (name : List ℕ) → name ≡ name_text file → name ≢ codes "index"
     → FindsTextPrefix (codes "data_") name None → FindsTextPrefix (codes "f_") name None → ⊥
 unfolding name_of

@@ -7,7 +7,7 @@ use Rattle.std.proofs.lemmas.Fmt.{digits_is_IsNumeral}
 use Rattle.std.proofs.lemmas.Result.{Ok-from_Ok_iff}
 use Rattle.blk_io.specs.Texts.{hex_text}
 
--- zeros in front
+-- zeros before a numeral
 all_digits-zeros : (k : ℕ) (ds : List ℕ) → AllDigits 16 ds → AllDigits 16 (replicate k 48 ++ ds)
 all_digits-zeros zero ds all = all
 all_digits-zeros (suc k) ds all = (grind (arith), all_digits-zeros k ds all)

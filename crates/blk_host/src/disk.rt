@@ -191,7 +191,7 @@ impl<R: Files<File = File> + Drop> Disk<R> {
             .mode(MODE)
             .open(&self.rt, name.as_str())?;
         let metadata = own_metadata(&self.rt, &self.held, name.as_str(), &made)?;
-        // The process may have been told to leave rights out of the files that it makes.
+        // The process's umask may have left rights out of the file that it made.
         if metadata.mode() & MODE_BITS != MODE {
             made.set_permissions(Permissions::from_mode(MODE))?;
         }

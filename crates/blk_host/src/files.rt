@@ -78,7 +78,7 @@ impl<R: Files<File = File> + Drop> DiskFiles<R> {
         Ok(Some(self.disk.open(file)?.length()?))
     }
 
-    /// Moves the file's bytes from a place on into the front of `out`, as many as there are, and gives their number.
+    /// Moves the file's bytes from a place on into a prefix of `out`, as many as there are, and gives their number.
     pub fn read_at(&mut self, file: FileId, at: u64, out: &mut [u8]) -> io::Result<usize>
         ensures within { IfOk result (λ n. n ≤ length out.old) }
         ensures none { has self.old.names file ≡ false → result ≡ Ok 0 }
@@ -156,7 +156,7 @@ impl Read for Rest<'_> {
     }
 }
 
-// Moves the bytes of a file from a place on into the front of `out`, as many as there are.
+// Moves the bytes of a file from a place on into a prefix of `out`, as many as there are.
 fn read_from(file: &File, at: u64, out: &mut [u8]) -> io::Result<usize>
     ensures { IfOk result (λ n. n ≤ length out.old) }
 {

@@ -1,4 +1,4 @@
-// A folder of the machine. It tells nothing of its content.
+// A folder of the machine, which is opaque.
 ghost use Rattle.std.specs.Prelude.{◌<◌, Ok, length};
 
 use crate::faults::counted;

@@ -8,15 +8,15 @@ use std::os::unix::fs::MetadataExt;
 #[derive(Clone, Copy)]
 pub struct Identity {
     is_regular: bool,
-    // How many names it has.
+    // How many names the file has.
     links: u64,
     device: u64,
-    // Its number on the device.
+    // The number of the file on the device.
     number: u64,
 }
 
 impl Identity {
-    /// The file that the machine told this of.
+    /// The identity of the file that has this metadata.
     pub fn of(metadata: &Metadata) -> Self {
         Identity {
             is_regular: metadata.is_file(),

@@ -72,7 +72,7 @@ pub run-more : (f : File) (ws : List (ℕ × ℕ)) (start : ℕ) (run : List (�
 run-more f ws start run is =
     ap (word_steps f) (take-add start (length run) ws) ∙ word_steps-append f (take start ws) (take (length run) (drop start ws)) ∙ ap (λ (r : List (ℕ × ℕ)). word_steps f (take start ws) ++ word_steps f r) (sym is)
 
--- and those of the others after these
+-- the steps of all words are those up to a place in their list, those of a run there, and those of the words after the run
 pub run-split : (f : File) (ws : List (ℕ × ℕ)) (start : ℕ) (run : List (ℕ × ℕ)) → run ≡ take (length run) (drop start ws) → word_steps f ws ≡ (word_steps f (take start ws) ++ word_steps f run) ++ word_steps f (drop (start + length run) ws)
 run-split f ws start run is =
     ap (word_steps f) (sym (take-append-drop (start + length run) ws))

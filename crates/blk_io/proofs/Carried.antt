@@ -37,11 +37,11 @@ pub untold_where : (files : Option Image) → ForSome files (λ image. ⊥) → 
 untold_where None never = refl
 untold_where (Some image) never = absurd (never image refl)
 
--- a part of some steps tells nothing where nothing was told
+-- a part of some steps leaves an opaque folder opaque
 pub silent_part : {a b : Told} {s : List TrailStep} → AppliesPrefix a b s → a.files ≡ None → b.files ≡ None
 silent_part {a} {b} {s} part none = part.applies.files ∙ ap (option_map (after part.made)) none
 
--- what holds of the files at the end, where they are told at the start, and where an opaque folder stays so
+-- what holds of the files at the end, where they are observed at the start and an opaque folder stays opaque
 pub told_at_end : (old new : Option Image) (P : Image → Type 0) → (old ≡ None → new ≡ None) → ForSome old (λ from. ForSome new P) → ForSome new P
 told_at_end None new P silent holds image there = absurd (clash (sym (silent refl) ∙ there))
   where

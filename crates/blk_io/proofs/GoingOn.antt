@@ -1,4 +1,4 @@
--- A sink goes on through one call after another.
+-- An output stays the same one through one call after another, and its error counter doesn't fall.
 use Rattle.std.proofs.Common.{ℕ, List, refl, ◌∙◌, arith}
 use Rattle.blk_io.specs.Streams.{GoesOn}
 

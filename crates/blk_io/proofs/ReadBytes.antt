@@ -5,13 +5,13 @@ use Rattle.spec_image.specs.Image.{File, Image, bytes_of, length_of}
 use Rattle.spec_image.specs.Told.{GivesBytes}
 use Rattle.spec_image.proofs.Words.{range-is}
 
--- the front of what is after a place, as a range
+-- a prefix of the bytes from an offset on is a range
 front_is : (n place : ℕ) (bytes : List ℕ) (old : List ℕ) → n ≡ min (length old) (length bytes - place) → range_at (content bytes) place n ≡ take n (drop place bytes)
 unfolding range_at
 front_is zero place bytes old many = refl
 front_is (suc n) place bytes old many = range-is (suc n) place bytes (omega (arith, many))
 
--- bytes of a file that were moved into the front of a buffer
+-- bytes of a file that were moved into a prefix of a buffer
 pub gives_prefix : (image : Image) (file : File) (place : ℕ) (bytes old new : List ℕ) (n : ℕ) → bytes_of image file ≡ bytes → n ≡ min (length old) (length bytes - place) → take n new ≡ take n (drop place bytes) → drop n new ≡ drop n old
     → GivesBytes image file place old new n
 gives_prefix image file place bytes old new n is many front rest = record {

@@ -34,7 +34,7 @@ told_grows start files new w k k' is on = record { files = ap Some is; trail = a
     longer_each None = refl
     longer_each (Some s) = refl
 
--- what holds of the files that are told
+-- what holds of the observed files
 pub for_files : (P : Image → Type 0) (image : Image) → P image → ForSome (Some image) P
 for_files P image holds other e = subst P (some_inj e) holds
 
@@ -119,7 +119,7 @@ pub steps_of-more : (calls : List Change) (i : ℕ) (call : Change) → i < leng
 steps_of-more calls i call within there =
     ap steps_of (take_more calls i call within ∙ ap (λ (x : Change). take i calls ++ x ∷ []) (sym there)) ∙ steps_of-push (take i calls) call
 
--- no step was made, where a write trace is told
+-- no step was made, where a write trace is observed
 pub no_steps : (start : Image) (k : Option (List TrailStep)) → ForSome (option_map (λ (s : List TrailStep). record { start = start; steps = s }) k) (λ (t : Trail). t.steps ≡ []) → ForSome k (λ s. s ≡ [])
 no_steps start k none s there = none (record { start = start; steps = s }) (ap (option_map (λ (s : List TrailStep). record { start = start; steps = s })) there)
 

@@ -57,7 +57,7 @@ not_zero n = grind (arith, nat_tests)
 pub words_in-some : (at n : ℕ) → words_in at (suc n) ≡ (at % 4 + suc n + 3) / 4
 words_in-some at n = ap (λ (t : Bool). if t then 0 else (at % 4 + suc n + 3) / 4) (not_zero n)
 
--- the front with some words
+-- the length of the prefix that has some words
 prefix_in-some : (at n w : ℕ) → prefix_in at n (suc w) ≡ min n (4 * (at / 4 + suc w) - at)
 prefix_in-some at n w = ap (λ (t : Bool). if t then 0 else min n (4 * (at / 4 + suc w) - at)) (not_zero w)
 
@@ -102,7 +102,7 @@ whole_words at w = by_end (end_of at (suc w)) refl
     by_end zero e = absurd (omega arith)
     by_end (suc n) e = words_in-some at n ∙ full at (suc n) w e
 
--- the front of a write that has its first words has these words
+-- the prefix of a write that has its first words has these words
 pub take-words : (f : File) (at w : ℕ) (bs : List ℕ) → words f at (take (prefix_in at (length bs) w) bs) ≡ take w (words f at bs)
 unfolding words
 take-words f at zero bs = refl

@@ -18,7 +18,7 @@ no_calls = record { calls = 0; lacks = 0; faults = 0; listed = [] }
 abbrev pub with_listed : ℕ → ℕ → CallCounts → CallCounts
 with_listed call words counts = record { calls = counts.calls; lacks = counts.lacks; faults = counts.faults; listed = counts.listed ++ (call, words) ∷ [] }
 
--- a counter raised by one, which saturates at the last value of a u64
+-- a counter that rose by one, which saturates at the last value of a u64
 abbrev pub one_more : ℕ → ℕ
 one_more n = min (n + 1) (2 ^ 64 - 1)
 
@@ -49,14 +49,14 @@ pub record CountsCall (old new : CallCounts) (failed cause : Bool) : Type 0 wher
   pub lacking : old.lacks < new.lacks → failed ≡ true
   pub exact : FindsMemory old new → failed ≡ cause
 
--- the counts after the begin of a call: the counter of calls is raised
+-- the counts after the begin of a call: the counter of calls rose by one
 abbrev pub begun : CallCounts → CallCounts
 begun counts = record { calls = one_more counts.calls; lacks = counts.lacks; faults = counts.faults; listed = counts.listed }
 
--- the counts after a call failed: the error counter is raised
+-- the counts after a call failed: the error counter rose by one
 abbrev pub failed : CallCounts → CallCounts
 failed counts = record { calls = counts.calls; lacks = counts.lacks; faults = one_more counts.faults; listed = counts.listed }
 
--- the counts after a call ran out of memory: the error counter and that of calls without memory are raised
+-- the counts after a call ran out of memory: the error counter and that of calls without memory rose by one
 abbrev pub lacking : CallCounts → CallCounts
 lacking counts = record { calls = counts.calls; lacks = one_more counts.lacks; faults = one_more counts.faults; listed = counts.listed }

@@ -33,7 +33,7 @@ pub record IsShort (told : Told) (file : FileId) (place count : ℕ) (damage : D
   pub few : damage.found < count
   pub many : ForSome told.files (λ image. damage.found ≡ min count (length_of image (file_of file) - place))
 
--- a read of so many bytes at the front of a file gave fewer: the error has the file, offset 0, and as its word how many were given
+-- a read of so many bytes at the start of a file gave fewer: the error has the file, offset 0, and as its word how many were given
 abbrev pub IsShortAtStart : File → (count given : ℕ) → Damage → Type 0
 IsShortAtStart file count given damage = (given < count) × (damage_of damage ≡ record { file = file; at = 0; found = given })
 

@@ -30,6 +30,6 @@ pub record KeepsPlace (file : File) (after next new : Option File) : Type 0 wher
   pub is : new ≡ next
   pub later : IsAfter after file → IsUpTo file next
 
--- one step of a search for the first file behind `after`: the new candidate is the nearer of this file and the candidate so far
+-- one step of a search for the first file after `after`: the new candidate is the nearer of this file and the candidate so far
 abbrev pub IsNearer : File → Option File → Option File → Option File → Type 0
 IsNearer file after next new = IsFileBetween file after next new ⊎ KeepsPlace file after next new

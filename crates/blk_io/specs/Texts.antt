@@ -7,7 +7,7 @@ use Rattle.blk_io.specs.declared.fault.Fault.{Fault}
 use Rattle.blk_io.specs.declared.fault.Fault.TheVariants.{Device, Damaged}
 use Rattle.blk_io.specs.Faults.{damage_of}
 
--- the digits of a number in lower-case hexadecimal, with zeros (48 is '0') in front to a length of at least so many
+-- the digits of a number in lower-case hexadecimal, with zeros (48 is '0') before them to a length of at least so many
 unfoldable pub hex_text : ℕ → ℕ → List ℕ
 hex_text least n = replicate (least - length (digits 16 false n)) 48 ++ digits 16 false n
 
@@ -21,7 +21,7 @@ name_of (External n) = codes "f_" ++ hex_text 6 n
 unfoldable pub damage_text : checks.Damage → List ℕ
 damage_text damage = codes "damaged " ++ (name_of damage.file ++ (codes " " ++ (decimal damage.at ++ (codes " " ++ hex_text 8 damage.found))))
 
--- what is printed of an I/O error: a failure of the folder, the source or the sink
+-- what is printed of an I/O error: a failure of the folder, the input or the output
 abbrev pub failed_text : List ℕ
 failed_text = codes "the device failed"
 

@@ -43,7 +43,7 @@ impl Error for Damage {}
 pub enum Fault {
     /// The folder failed.
     Device,
-    /// What the folder holds failed a check.
+    /// A check of what is in the folder failed.
     Damaged(Damage),
 }
 

@@ -60,7 +60,7 @@ impl FileId {
     }
 }
 
-/// The folder, the source or the sink failed.
+/// The error of a call on a folder, an input or an output that failed.
 #[derive(Clone, Copy, Debug, PartialEq, Eq)]
 pub struct Failed;
 
@@ -119,7 +119,7 @@ pub trait Folder {
         ensures later { faults self.old ≤ faults self.new }
         ensures failed { OnErr result (Rises (faults self.old) (faults self.new)) };
 
-    /// Moves the file's bytes from a place on into the front of `out`, as many as there are.
+    /// Moves the file's bytes from a place on into a prefix of `out`, as many as there are.
     fn read_at(&mut self, file: FileId, at: u64, out: &mut [u8]) -> Result<usize, Failed>
         ensures within { IfOk result (λ n. n ≤ length out.old) }
         ensures bytes { IfOk result (λ n. ForSome (told self.old).files (λ image. GivesBytes image (file_of file) at out.old out.new n)) }

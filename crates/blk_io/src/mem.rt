@@ -18,7 +18,7 @@ use crate::mem_trail::{Change, front_of, keep, keep_write, replay, steps_in, unk
 use crate::{Failed, FileId, Folder, NoMemory};
 use std::alloc::{AllocError, Global};
 
-/// A folder in memory. It tells its files, and also the steps that made them unless it was made without a write trace.
+/// A folder in memory. It is observable, with the steps that made its files unless it was made without a write trace.
 #[derive(Drop)]
 pub struct MemFolder {
     alloc: Global,

@@ -15,9 +15,9 @@ use std::alloc::{AllocError, Global};
 /// A file and its bytes.
 #[derive(Drop)]
 pub struct MemFile {
-    /// Its name.
+    /// The name of the file.
     pub file: FileId,
-    /// What it holds.
+    /// The bytes of the file.
     pub bytes: Vec<u8>,
 }
 
@@ -47,7 +47,7 @@ pub(crate) fn length_in(files: &[MemFile], file: FileId) -> Option<u64>
     }
 }
 
-// Moves the bytes from a place on into the front of `out`, as many as there are.
+// Moves the bytes from a place on into a prefix of `out`, as many as there are.
 pub(crate) fn copy_front(bytes: &[u8], at: u64, out: &mut [u8]) -> usize
     ensures within { result ≤ length out.old }
     ensures count { result ≡ min (length out.old) (length bytes.now - at) }
@@ -63,7 +63,7 @@ pub(crate) fn copy_front(bytes: &[u8], at: u64, out: &mut [u8]) -> usize
     n
 }
 
-// Moves bytes of a file into the front of `out`, as many as there are.
+// Moves bytes of a file into a prefix of `out`, as many as there are.
 pub(crate) fn read_in(files: &[MemFile], file: FileId, at: u64, out: &mut [u8]) -> usize
     ensures within { result ≤ length out.old }
     ensures bytes { GivesBytes (image_of files.now) (file_of file) at out.old out.new result }

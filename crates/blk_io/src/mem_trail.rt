@@ -11,16 +11,16 @@ use crate::FileId;
 use crate::mem_files::{MemFile, remove, resize, write_over};
 use std::alloc::{AllocError, AllocFailed, Global};
 
-/// What a call did.
+/// What a call did to a file, or noted.
 #[derive(Drop)]
 pub enum Change {
-    /// It wrote these bytes from this place on.
+    /// The call wrote these bytes from this place on.
     Wrote(FileId, u64, Vec<u8>),
-    /// It gave the file this length.
+    /// The call gave the file this length.
     Sized(FileId, u64),
-    /// It removed the file.
+    /// The call removed the file.
     Deleted(FileId),
-    /// It noted that so many commands are done.
+    /// The call noted that so many commands are done.
     Noted(u64),
 }
 

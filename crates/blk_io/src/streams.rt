@@ -1,4 +1,4 @@
-// A source of bytes, a sink of bytes and a clock.
+// An input of bytes, an output of bytes and a clock.
 ghost use Rattle.std.specs.Prelude.{◌≡◌, ◌≤◌, ℕ, Bool, List, ◌++◌, length, drop, false, Option, OnOk, OnErr, IfOk};
 ghost use Rattle.std.specs.Option.{ForSome, option_map};
 ghost use Rattle.spec_image.specs.Told.{Rises};
@@ -13,10 +13,10 @@ pub trait Source {
     /// The bytes that are still to be read, where they are observable.
     ghost left: { Self → Option (List ℕ) };
 
-    /// The error counter of the source.
+    /// The error counter of the input.
     ghost faults: { Self → ℕ };
 
-    /// Moves bytes of what is left into the front of `out`. None into a buffer that isn't empty is the end.
+    /// Moves bytes of what is left into a prefix of `out`. Where none are moved into a buffer that isn't empty, the input is at its end.
     fn take(&mut self, out: &mut [u8]) -> Result<usize, Failed>
         ensures within { IfOk result (λ n. n ≤ length out.old) }
         ensures left { IfOk result (λ n. left self.new ≡ option_map (drop n) (left self.old)) }
@@ -26,12 +26,12 @@ pub trait Source {
         ensures failed { OnErr result (Rises (faults self.old) (faults self.new)) };
 }
 
-/// Where bytes go that are printed.
+/// An output, where printed bytes go.
 ///
-/// A sink may gather bytes, as long as it isn't flushed; those that it holds count as written. A call that answers
-/// `Failed` may have written a prefix of its bytes, and is counted in `faults`.
+/// An output may gather bytes, as long as it isn't flushed; those that it holds count as written. A call that answers `Failed` may have written a prefix of its
+/// bytes, and is counted in `faults`.
 pub trait Sink {
-    /// The identity of the sink, which no call changes: so a sink that was lent to a call is known to be the same after it.
+    /// The identity of the output, which no call changes: so an output that was lent to a call is known to be the same after it.
     ghost is: { Self → List ℕ };
 
     /// The bytes that were written, where they are observable.
@@ -40,7 +40,7 @@ pub trait Sink {
     /// Whether bytes wait to be handed on.
     ghost waiting: { Self → Bool };
 
-    /// The error counter of the sink.
+    /// The error counter of the output.
     ghost faults: { Self → ℕ };
 
     /// Writes all the bytes, or a prefix of them where it fails.

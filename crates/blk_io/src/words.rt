@@ -31,9 +31,8 @@ pub fn write_word<F: Folder>(
 // The most words that go by one call.
 const MOST_TOGETHER: usize = 8;
 
-/// Writes these words in turn, each at its place. Words that lie side by side, each after the one before, go by one
-/// call, eight of them at the most. `Failed` comes where the folder failed; some of the words may then be written, from
-/// the first on.
+/// Writes these words one after the other, each at its offset. Words that lie side by side, each after the one before, go by one call, eight of them at the
+/// most. `Failed` comes where the folder failed; some of the words may then be written, from the first on.
 pub fn write_words<F: Folder>(
     folder: &mut F,
     file: FileId,
@@ -55,7 +54,7 @@ pub fn write_words<F: Folder>(
     Ok(())
 }
 
-// The words at the front that lie side by side, each after the one before: eight at the most.
+// The longest prefix of the words that lie side by side, each after the one before: eight at the most.
 fn front_run(words: &[(u64, u32)]) -> &[(u64, u32)]
     requires some { 0 < length words.now }
     ensures inside { length result.now ≤ length words.now }

@@ -17,7 +17,7 @@ use Rattle.blk_lru.specs.Nodes.{link_at}
 use Rattle.blk_lru.proofs.Listed.{linked, splits}
 use Rattle.blk_lru.proofs.NodeWords.{checked_names, stands_as_node, next_link, prev_link}
 
--- what is told stays
+-- where the folder stays as it is, what holds of its observed files stays
 pub told_stays : {a m : Told} (P : Image → Type 0) → m ≡ a → ForSome a.files P → ForSome m.files P
 told_stays P stays holds = subst (λ (t : Told). ForSome t.files P) (sym stays) holds
 
@@ -33,7 +33,7 @@ untold_last r {a} {m} P Q weaker stays untold holds =
     if_damaged_weaker r (λ _. m.files ≡ None) (λ _. a.files ≡ None) (λ damage none. ap (λ (t : Told). t.files) (sym stays) ∙ none)
     (untold (told_stays Q stays (λ image there. weaker image (holds image there))))
 
--- the same where `?` hands its fault on
+-- what a call gives only on an opaque folder, where `?` hands its fault on
 pub untold_on : {A B : Type 0} (r : Result A Fault) (q : Result B Fault) (e : Fault) {a m : Told} (P Q : Image → Type 0) → ((image : Image) → P image → Q image) → m ≡ a → (ForSome m.files Q → IfDamaged r (λ _. m.files ≡ None)) → r ≡ Err e → IsErrAnd q (λ (x : Fault). x ≡ e) → ForSome a.files P → IfDamaged q (λ _. a.files ≡ None)
 untold_on r q e {a} {m} P Q weaker stays untold is same holds = carried r q e (λ _. a.files ≡ None) is same (untold_last r P Q weaker stays untold holds)
 

@@ -39,7 +39,7 @@ module _ (list : ListView) where
       let b : list.checks list.head ≡ true = ap list.checks is ∙ found.good in
       (or_right (list.head == 0) (list.checks list.head) b, found.node ∙ sym is)
 
--- where it doesn't count
+-- where an operation doesn't count
 module _ (list : ListView) where
   not_node : list.checks list.transaction ≡ false → counts list ≡ false
   not_node bad = false_from_ne_true (counts list) (λ e. clash (counting list e).good bad)
@@ -66,7 +66,7 @@ module _ (list : ListView) where
       let k : links_count list list.transaction ≡ true = rw other at h in
       clash k bad)
 
-  -- and where it does
+  -- where an operation counts
   pub insert_counts : (list.transaction == 0) ≡ false → list.checks list.transaction ≡ true → list.operation ≡ 1 → head_counts list ≡ true → counts list ≡ true
   unfolding counts
   insert_counts some good is head =

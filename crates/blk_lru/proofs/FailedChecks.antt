@@ -22,7 +22,7 @@ if_damaged_weaker (Ok a) weaker holds = tt
 if_damaged_weaker (Err Device) weaker holds = tt
 if_damaged_weaker (Err (Damaged damage)) weaker holds = weaker damage holds
 
--- a node is read too short, or doesn't check, and nothing was written
+-- a node is read too short, or has a wrong checksum, and nothing was written
 pub short_or_unsealed : {A : Type 0} (r : Result A Fault) (files : BlockFiles) (old new : Told) (w : ℕ) → is_node_among files w ≡ true
     → IfDamaged r (λ damage. IsShort old (names.Block (file_selector w)) (place w) (record_size w) damage ⊎ IsUnsealed old w damage) → IfDamaged r (λ _. Stays old new) → IfDamaged r (IsWrongNode files new)
 short_or_unsealed (Ok a) files old new w stands holds stays = tt

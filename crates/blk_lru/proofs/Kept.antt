@@ -43,7 +43,7 @@ module _ (files : BlockFiles) where
   unfolding update_steps
   kept_update w changes seal image kept = kept_words w (update_words (seal_place w) changes seal) image kept
 
-  -- a sealed update
+  -- an update of a record under a checksum 0
   pub kept_sealed : (w : ℕ) (changes : List (ℕ × ℕ)) (image : Image) → IsOpen files image → Along (IsOpen files) image (sealed_steps image w changes)
   kept_sealed w changes image kept = kept_update w changes (new_seal image w changes) image kept
 
@@ -56,7 +56,7 @@ module _ (files : BlockFiles) where
   kept_write (Transaction x) image kept = kept_index IndexHead.TRANSACTION x image kept
   kept_write (Operation x) image kept = kept_index IndexHead.OPERATION x image kept
 
-  -- and writes
+  -- writes of the list
   pub kept_writes : (writes : List ListWrite) (image : Image) → IsOpen files image → Along (IsOpen files) image (steps_of_writes writes image)
   kept_writes [] image kept = kept
   kept_writes (write ∷ writes) image kept =

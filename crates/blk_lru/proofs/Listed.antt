@@ -53,7 +53,7 @@ tail_names list (x ∷ xs) is =
     at_end list list.tail (Some (last_or x xs)) is.no_zero (λ e. absurd (no_some (last_or x xs) e))
     (λ w e. (is.tail_is ∙ some_eq (last_or x xs) w e, ap list.checks (sym (some_eq (last_or x xs) w e)) ∙ last_good list.checks list.next list.prev x x xs (last_or x xs) is.linked))
 
--- both check, or are 0
+-- the checksums of head and tail match or are absent, or head and tail are 0
 pub head_checks : (list : ListView) (nodes : List ℕ) → IsList list nodes → (list.head ≡ 0) ⊎ (list.checks list.head ≡ true)
 head_checks list [] is = inl is.head_is
 head_checks list (x ∷ xs) is = inr (ap list.checks is.head_is ∙ is.linked.0.good)

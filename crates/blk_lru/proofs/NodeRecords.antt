@@ -1,4 +1,4 @@
--- A node that checks, as a record of bytes.
+-- A node whose checksum matches or is absent, as a record of bytes.
 use Rattle.std.proofs.Common.{◌≡◌, ℕ, ◌+◌, ◌≤◌, Bool, true, false, if◌then◌else◌, None, Some, List, refl, ap, sym, ◌∙◌, subst, arith}
 use Rattle.spec_image.specs.Bytes.{content, word_at, range_at}
 use Rattle.spec_image.specs.Image.{Block, Image, AreBytes, byte}
@@ -16,7 +16,7 @@ use Rattle.blk_lru.specs.Nodes.{link_at, list_among, FindsNode}
 use Rattle.blk_lru.proofs.NodeWords.{node_kind, stands_as_node}
 use Rattle.blk_lru.proofs.Flights.{next_among, prev_among}
 
--- a node whose bytes were read checks where they do
+-- the checksum of a node whose bytes were read matches or is absent where that is so in them
 module _ (files : BlockFiles) (image : Image) (w : ℕ) (bytes : List ℕ) (small : AreBytes image) (is : is_node_among files w ≡ true) (read : bytes ≡ range_at (byte image (Block (file_selector w))) (place w + 0) 36) where
   bytes_are : bytes ≡ record_at image w
   bytes_are = record_read image w 36 bytes (sym (node_bytes w (node_kind files w is))) read
@@ -40,12 +40,12 @@ module _ (files : BlockFiles) (image : Image) (w : ℕ) (bytes : List ℕ) (smal
   pub found_in : FindsNode (list_among files image) w (if checks 32 bytes then Some (record { node = w; next = word_at (content bytes) 16; prev = word_at (content bytes) 20 }) else None)
   found_in = by_check (checks 32 bytes) refl
 
--- and a word that names no node finds none
+-- a word that names no node finds none
 pub found_none : (files : BlockFiles) (image : Image) (w : ℕ) → is_node_among files w ≡ false → (list_among files image).checks w ≡ false
 unfolding list_among
 found_none files image w none = rw none refl
 
--- a node's record that checks says that the node does
+-- where the checksum of a node's record matches or is absent, that is so in the list's view of the node
 pub checks_back : (files : BlockFiles) (image : Image) (w : ℕ) → Agrees files image → AreBytes image → is_node_among files w ≡ true → RecordChecks w image → (list_of image).checks w ≡ true
 unfolding list_of checks_at
 checks_back files image w agrees small is good =

@@ -35,7 +35,7 @@ module _ (files : BlockFiles) (image : Image) (agrees : Agrees files image) wher
       (and_from (is_address w) (if kind_of w == external then has_file image (External (external_number w)) else stands_in_blocks image w) a.0 (ap (λ (t : Bool). if t then has_file image (External (external_number w)) else stands_in_blocks image w) block_kind ∙ blocks))
       b.0
 
-  -- and what is valid as one names a node
+  -- what is valid as a node in the image is named as one
   pub names_node : (w : ℕ) → stands_as image rankings w ≡ true → is_node_among files w ≡ true
   unfolding names_among stands
   names_node w st =

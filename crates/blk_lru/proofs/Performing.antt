@@ -18,12 +18,12 @@ use Rattle.blk_lru.specs.declared.writes.Write.{Write}
 use Rattle.blk_lru.proofs.Kept.{kept_writes}
 use Rattle.blk_disk.specs.Open.{IsOpen}
 
--- what a folder tells before writes: bytes alone, with a whole index and the block files that are kept
+-- an observable folder before writes: its files have bytes alone, the index is whole, and the headers agree with the table
 pub record IsReady (files : BlockFiles) (image : Image) : Type 0 where
   pub kept : IsOpen files image
   pub bytes : AreBytes image
 
--- it can be written
+-- a folder that is ready can be written
 pub ready_writable : {files : BlockFiles} {image : Image} → IsReady files image → IsWritable image
 ready_writable {files} {image} ready = record { bytes = ready.bytes; has_header = let index = ready.kept.whole_index in omega (arith, index) }
 
@@ -35,11 +35,11 @@ pub record Wrote (old now : Told) (writes : List ListWrite) : Type 0 where
   pub applies : ForSome old.files (λ from. Applies old now (steps_of_writes writes from))
   pub silent : old.files ≡ None → now.files ≡ None
 
--- the nodes of some writes check
+-- the checksums of the nodes of some writes match or are absent
 abbrev pub Check : Image → List ListWrite → Type 0
 Check image writes = AreOf (λ n. (list_of image).checks n ≡ true) writes
 
--- a prefix of the writes was made, whose nodes checked, and these are left
+-- a prefix of the writes was made, whose nodes had checksums that matched or were absent, and these writes are left
 pub record Reached (old now : Told) (writes left : List ListWrite) : Type 0 where
   pub done : List ListWrite
   pub split : writes ≡ done ++ left
@@ -102,7 +102,7 @@ first_words : (xs ys : List ListWrite) → AllWriteWords (xs ++ ys) → AllWrite
 first_words [] ys h = tt
 first_words (x ∷ xs) ys h = (h.0, first_words xs ys h.1)
 
--- all of the writes, in front of others
+-- where some writes and then others can be made, the others can be made after the first ones
 split_can : (from : Image) (xs ys : List ListWrite) → IsWritable from → CanBeMade from (xs ++ ys) → CanBeMade (after (steps_of_writes xs from) from) ys
 split_can from [] ys is all = all
 split_can from (x ∷ xs) ys is all =
@@ -127,7 +127,7 @@ part_kept files old now steps along silent part image here = by_files old.files 
         subst (IsOpen files) (some_inj (sym is ∙ here)) (cut p.made p.left from (subst (Along (IsOpen files) from) p.split (along from there)))
 
 module _ (files : BlockFiles) (old : Told) (writes : List ListWrite) (ready : ForSome old.files (IsReady files)) (words : AllWriteWords writes) where
-  -- the nodes of the writes that are made checked before the first
+  -- the checksums of the nodes of the writes that are made matched or were absent before the first write
   front_can : (now : Told) (left : List ListWrite) (r : Reached old now writes left) → ForSome old.files (λ from. CanBeMade from r.done)
   front_can now left r from there = record { nodes = r.checked from there; words = first_words r.done left (subst AllWriteWords r.split words) }
 

@@ -23,7 +23,7 @@ node_small files w is =
     let top : w / 2 ^ 31 ≡ 1 = eqb-true (w / 2 ^ 31) 1 b in
     omega arith
 
--- and isn't 0
+-- a node's word isn't 0
 pub node_some : (files : BlockFiles) (w : ℕ) → is_node_among files w ≡ true → (w == 0) ≡ false
 unfolding names_among
 node_some files w is = some_word w (and_parts (is_address w) ((kind_of w == rankings) && stands_among files w) is).0

@@ -26,17 +26,16 @@ use blk_disk::BlockFiles;
 use blk_io::{Fault, Folder};
 use blk_record::{NodeView, WORD_VALUES};
 
-/// Puts a node in front of the list. It is not in the list, and fewer than 131072 nodes are.
+/// Puts a node at the head of the list. It is not in the list, and fewer than 131072 nodes are.
 ///
-/// The operation word and the transaction word are written, then the node's links, the link of the node that was first,
-/// or the last node where there was none, and the first node; at last the transaction ends. Of a node that is written
-/// the seal is 0 first and the hash again in the end. A head that is neither 0 nor the address of a node that is there
-/// is corruption, and so is a node that is to be written and doesn't check. This takes at most 17 folder calls.
+/// The operation word and the transaction word are written, then the node's links, the link of the node that was first, or the last node where there was none,
+/// and the first node; at last the transaction ends. The checksum of a node that is written is 0 first and the hash again in the end. A head that is neither 0
+/// nor the address of a node that is there is corruption, and so is a wrong checksum of a node that is to be written. This takes at most 17 folder calls.
 pub fn insert_front<F: Folder>(f: &mut F, files: &BlockFiles, node: Addr) -> Result<(), Fault>
     requires stands { IsTrue (is_node_among files.now node) }
     requires is_open { ForSome (F.told f.old).files (IsOpen files.now) }
 
-    // Where it succeeds each node that was written checked.
+    // Where the call succeeds, the checksum of each node that was written matched or was absent.
     ensures checked { OnOk result (ForSome (F.told f.old).files (λ from. CanBeMade from (writes_of insert node (list_of from)))) }
     ensures inserted { OnOk result (ForSome (F.told f.old).files (λ from. CanBeInserted (list_of from) (walked from) node → ForSome (F.told f.new).files (HasListAtRest (node ∷ walked from)))) }
     ensures sealed { OnOk result (ForSome (F.told f.old).files (λ from. ForSome (F.told f.new).files (Seals from (writes_of insert node (list_of from))))) }
@@ -62,15 +61,14 @@ pub fn insert_front<F: Folder>(f: &mut F, files: &BlockFiles, node: Addr) -> Res
 
 /// Takes a node out of the list.
 ///
-/// The operation word and the transaction word are written, then the links of the nodes beside it, or the first or the
-/// last node, and at last its own next becomes 0 and the transaction ends. Of a node that is written the seal is 0
-/// first and the hash again in the end. A link of the node that isn't the address of a node that is there is
-/// corruption, and so is a node that is to be written and doesn't check. This takes at most 17 folder calls.
+/// The operation word and the transaction word are written, then the links of the nodes beside it, or the first or the last node, and at last its own next
+/// becomes 0 and the transaction ends. The checksum of a node that is written is 0 first and the hash again in the end. A link of the node that isn't the
+/// address of a node that is there is corruption, and so is a wrong checksum of a node that is to be written. This takes at most 17 folder calls.
 pub fn remove<F: Folder>(f: &mut F, files: &BlockFiles, node: Addr) -> Result<(), Fault>
     requires stands { IsTrue (is_node_among files.now node) }
     requires is_open { ForSome (F.told f.old).files (IsOpen files.now) }
 
-    // Where it succeeds the node and both that its links name checked.
+    // Where the call succeeds, the checksums of the node and of both nodes that its links name matched or were absent.
     ensures checked { OnOk result (ForSome (F.told f.old).files (λ from. HasGoodLinks (list_of from) node)) }
     ensures removed { OnOk result (ForSome (F.told f.old).files (λ from. (prefix suffix : List ℕ) → HasListAtRest (prefix ++ node ∷ suffix) from → ForSome (F.told f.new).files (HasListAtRest (prefix ++ suffix)))) }
     ensures sealed { OnOk result (ForSome (F.told f.old).files (λ from. ForSome (F.told f.new).files (Seals from (writes_of removal node (list_of from))))) }
@@ -95,17 +93,16 @@ pub fn remove<F: Folder>(f: &mut F, files: &BlockFiles, node: Addr) -> Result<()
     perform(f, files, &plan)
 }
 
-/// Moves a listed node to the front of the list, and sets its two times to a moment.
+/// Moves a listed node to the head of the list, and sets its two times to a moment.
 ///
-/// The operation word and the transaction word are written, the node is taken out, the operation word becomes that of
-/// an insert, and the node is put in front; then the transaction ends. Where the node is the first one already no
-/// transaction is started. At last the times are written. Failed checks are those of an insert and a removal. This
-/// takes at most 36 folder calls.
+/// The operation word and the transaction word are written, the node is taken out, the operation word becomes that of an insert, and the node is put at the
+/// head; then the transaction ends. Where the node is the first one already no transaction is started. At last the times are written. Failed checks are those
+/// of an insert and a removal. This takes at most 36 folder calls.
 pub fn touch<F: Folder>(f: &mut F, files: &BlockFiles, node: Addr, moment: u64) -> Result<(), Fault>
     requires stands { IsTrue (is_node_among files.now node) }
     requires is_open { ForSome (F.told f.old).files (IsOpen files.now) }
 
-    // Where it succeeds, each node that was written had a right or absent checksum, and so had both neighbours of a node that wasn't the first.
+    // Where the call succeeds, each node that was written had a right or absent checksum, and so had both neighbours of a node that wasn't the first.
     ensures checked { OnOk result (ForSome (F.told f.old).files (λ from. CanBeTouched from node)) }
     ensures touched { OnOk result (ForSome (F.told f.old).files (λ from. (prefix suffix : List ℕ) → HasListAtRest (prefix ++ node ∷ suffix) from → ForSome (F.told f.new).files (HasListAtRest (node ∷ prefix ++ suffix)))) }
     ensures times { OnOk result (ForSome (F.told f.old).files (λ _. ForSome (F.told f.new).files (AreTimes node moment))) }
@@ -158,7 +155,7 @@ fn set_times<F: Folder>(
     files.update_sealed(folder, node, &times)
 }
 
-// Moves a listed node to the front of the list, where it isn't there already.
+// Moves a listed node to the head of the list, where it isn't there already.
 fn move_front<F: Folder>(folder: &mut F, files: &BlockFiles, node: Addr) -> Result<(), Fault>
     requires stands { IsTrue (is_node_among files.now node) }
     requires is_open { ForSome (F.told folder.old).files (IsOpen files.now) }
@@ -179,7 +176,7 @@ fn move_front<F: Folder>(folder: &mut F, files: &BlockFiles, node: Addr) -> Resu
     move_behind(folder, files, node, head)
 }
 
-// Moves a listed node to the front of the list, where another node is the first one.
+// Moves a listed node to the head of the list, where another node is the first one.
 fn move_behind<F: Folder>(
     folder: &mut F,
     files: &BlockFiles,

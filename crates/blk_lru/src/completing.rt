@@ -42,10 +42,9 @@ pub(crate) enum Usable<T> {
 
 /// Completes the operation in flight, if there is one, and ends its transaction.
 ///
-/// An operation counts where its code is that of an insert, a removal or a move, and its node and the nodes that it
-/// goes by are there and check: the first one for an insert and a move, and those beside the node for a removal and a
-/// move. One that doesn't count is given up: its transaction alone ends. Where there is none in flight nothing is
-/// written. The list need not be whole. This takes at most 34 folder calls.
+/// An operation counts where its code is that of an insert, a removal or a move, and its node and the nodes that it goes by are there with checksums that match
+/// or are absent: the first one for an insert and a move, and those beside the node for a removal and a move. One that doesn't count is given up: its
+/// transaction alone ends. Where there is none in flight nothing is written. The list need not be whole. This takes at most 34 folder calls.
 pub fn complete<F: Folder>(f: &mut F, files: &BlockFiles) -> Result<(), Fault>
     requires is_open { ForSome (F.told f.old).files (IsOpen files.now) }
     ensures sealed { OnOk result (ForSome (F.told f.old).files (λ from. ForSome (F.told f.new).files (Seals from (completion_writes (list_of from))))) }

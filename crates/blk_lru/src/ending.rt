@@ -25,9 +25,8 @@ use blk_record::NodeView;
 /// Makes a node the last of the list: it gets itself as its next, and the tail names it. Or, for `None`, makes the
 /// list empty: head and tail become 0.
 ///
-/// A word is written only where it differs. No operation is in flight meanwhile, and the list need not be whole. A node
-/// that is to be written and doesn't check is corruption, and so are too few bytes. This takes at most 7 folder calls,
-/// and 2 where nothing differs.
+/// A word is written only where it differs. No operation is in flight meanwhile, and the list need not be whole. A wrong checksum of a node that is to be
+/// written is corruption, and so are too few bytes. This takes at most 7 folder calls, and 2 where nothing differs.
 pub fn end_at<F: Folder>(
     folder: &mut F,
     files: &BlockFiles,
@@ -41,7 +40,7 @@ pub fn end_at<F: Folder>(
     ensures prefix { MakesPartOf (F.told folder.old) (F.told folder.new) (λ from. steps_of_writes (ending_writes (list_of from) last) from) }
     ensures is_open { ForSome (F.told folder.new).files (IsOpen files.now) }
 
-    // An observable folder reports corruption only where the node is to be written and doesn't check.
+    // An observable folder reports corruption only where the node is to be written and has a wrong checksum.
     ensures damaged { IfDamaged result (IsEndDamage last files.now (F.told folder.old) (F.told folder.new)) }
     ensures untold { ForSome (F.told folder.old).files (λ from. CanBeMade from (ending_writes (list_of from) last)) → IfDamaged result (λ _. (F.told folder.old).files ≡ None) }
 

@@ -17,7 +17,7 @@ use blk_disk::{BlockFiles, file_of};
 use blk_io::{Damage, Fault, Folder};
 use blk_record::{BlockHead, NodeView, Record};
 
-// A node that checks, and the words of its links.
+// A node whose checksum matches or is absent, and the words of its links.
 #[derive(Clone, Copy)]
 pub(crate) struct Links {
     pub(crate) node: Addr,
@@ -73,7 +73,7 @@ pub(crate) fn link_word<F: Folder>(
     Ok(u32::from_le_bytes(bytes))
 }
 
-// The node that a word names and its links, where it is there and checks, by at most one folder call.
+// The node that a word names and its links, where it is there and its checksum matches or is absent, by at most one folder call.
 pub(crate) fn checked<F: Folder>(
     folder: &mut F,
     files: &BlockFiles,
@@ -94,7 +94,7 @@ pub(crate) fn checked<F: Folder>(
     Ok(links_in(node, &window))
 }
 
-// The links of a node that has these bytes, where it checks.
+// The links of a node that has these bytes, where its checksum matches or is absent.
 fn links_in(node: Addr, window: &[u8]) -> Option<Links>
     requires { length window.now ≡ node_size }
     ensures { result ≡ (if checks node_seal_place window.now then Some (record { node = node; next = word_at (content window.now) NodeView.NEXT; prev = word_at (content window.now) NodeView.PREV }) else None) }

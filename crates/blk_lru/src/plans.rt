@@ -11,8 +11,7 @@ use crate::writes::Write;
 use arrayvec::ArrayVec;
 use blk_addr::Addr;
 
-// The most writes of an operation: its code, its node, three that take a node out, the code of an
-// insert, four that put the node in front, and the end.
+// The most writes of an operation: its code, its node, three that take a node out, the code of an insert, four that put the node at the head, and the end.
 const MOST_WRITES: usize = 11;
 
 /// Writes into the LRU list, in their order.
@@ -32,8 +31,8 @@ pub(crate) struct Neighbours {
     pub(crate) prev: Addr,
 }
 
-// An operation on a node, with the nodes that it uses: the head, and the node's neighbours, where there are any. The node is put in front, taken out, or taken
-// out and then put in front.
+// An operation on a node, with the nodes that it uses: the head, and the node's neighbours, where there are any. The node is put at the head, taken out, or
+// taken out and then put at the head.
 #[derive(Clone, Copy)]
 pub(crate) enum Operation {
     Insert {
@@ -131,7 +130,7 @@ fn add_pending(plan: &mut Plan, node: Addr, operation: &Operation)
     add(plan, &[Write::Transaction(0)]);
 }
 
-// Adds what puts a node in front.
+// Adds what puts a node at the head.
 fn put_front(plan: &mut Plan, node: Addr, head: Option<Addr>)
     requires room { length plan.old.items ≤ 6 }
     ensures writes { map meant plan.new.items ≡ map meant plan.old.items ++ putting_in_front node (word_or_zero head) }

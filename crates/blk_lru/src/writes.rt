@@ -33,7 +33,7 @@ pub(crate) const OPERATION: u64 = IndexHead::OPERATION;
 pub enum Write {
     /// The next of a node: the address of the node after it, its own at the end, or 0.
     Next(Addr, u32),
-    /// The prev of a node: the address of the node before it, or its own at the front.
+    /// The prev of a node: the address of the node before it, or its own at the head of the list.
     Prev(Addr, u32),
     /// The first node, or 0.
     Head(u32),
@@ -45,7 +45,7 @@ pub enum Write {
     Operation(u32),
 }
 
-// Makes writes in turn, whose nodes are valid. Each node is checked before it is written.
+// Makes these writes, whose nodes are valid, one after the other. Each node's checksum is checked before the node is written.
 pub(crate) fn perform<F: Folder>(
     folder: &mut F,
     files: &BlockFiles,
@@ -92,7 +92,7 @@ fn write_one<F: Folder>(folder: &mut F, files: &BlockFiles, write: Write) -> Res
     }
 }
 
-// Writes a link of a node, and seals the node again.
+// Writes a link of a node, and gives the node its checksum again.
 fn set_link<F: Folder>(
     folder: &mut F,
     files: &BlockFiles,

@@ -16,7 +16,7 @@ abbrev in_words : List ℕ → List (ℕ × ℕ) → Presence
 in_words words [] = record { blocks = map (has_block words) (range_with_len 0 1024); partial = None }
 in_words words (partial ∷ others) = record { blocks = map (has_block words) (range_with_len 0 1024); partial = Some partial }
 
--- 1500 bytes at 1048076 lie in two parts: 500 bytes at the end of the first, where they only end a block, and 1000 at the front of the second
+-- 1500 bytes at 1048076 lie in two parts: 500 bytes at the end of the first, where they only end a block, and 1000 at the start of the second
 pub over_two_parts :
     (covered_parts 1048076 1500 ≡ 0 ∷ 1 ∷ [])
     × (present_after ((1048076, 1048576) ∷ []) empty_part.presence ≡ empty_part.presence)

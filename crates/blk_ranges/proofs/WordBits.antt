@@ -1,4 +1,4 @@
--- The bits of a word that stand for some blocks.
+-- The bits of a word that represent some blocks.
 use Rattle.std.proofs.Common.{◌≡◌, ◌≢◌, ℕ, ◌+◌, ◌-◌, ◌*◌, ◌/◌, ◌%◌, ◌^◌, ◌<◌, ◌≤◌, List, length, Bool, true, false, ◌&&◌, ◌||◌, refl, sym, ap, ap₂, ◌∙◌, arith, min, max, inl, inr, ⊎_elim, bit_or, set, get_or}
 use Rattle.std.specs.Prelude.{nat_lt, nat_le, ◌==◌, not, if◌then◌else◌, bit_and}
 use Rattle.std.specs.Int.{bit_at, bit_not, trailing_zeros, w32}

@@ -8,7 +8,7 @@ pub(crate) const WORDS: usize = 32;
 /// The bits of a word.
 pub(crate) const BITS: u32 = 32;
 
-/// The bits of word i that stand for the blocks from one on and below another.
+/// The bits of word i that represent the blocks from one on and below another.
 pub(crate) fn bits_between(i: usize, first: u32, last: u32) -> u32
     requires { i < 32 }
     ensures { (k : ℕ) → k < 32 → (bit_at result k == 1) ≡ (nat_le first (32 * i + k) && nat_lt (32 * i + k) last) }

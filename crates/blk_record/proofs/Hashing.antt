@@ -47,7 +47,7 @@ unfolding hash
 hash-some (a ∷ rest) some = refl
 hash-some [] some = absurd (omega arith)
 
--- four bytes are taken off the front
+-- four bytes are taken off the start
 pub of_bytes-rest : (h r e : ℕ) (xs : List ℕ) → 4 ≤ length xs → r ≡ of_four h (get_or xs 0 0) (get_or xs 1 0) (get_or xs 2 0) (get_or xs 3 0) → of_bytes h xs ≡ e → of_bytes r (take (length xs - 4) (drop 4 xs)) ≡ e
 of_bytes-rest h r e xs enough is before =
     let whole : take (length xs - 4) (drop 4 xs) ≡ drop 4 xs = take_all (length xs - 4) (drop 4 xs) (omega (arith, length-drop 4 xs)) in

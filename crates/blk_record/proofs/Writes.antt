@@ -8,7 +8,7 @@ use Rattle.spec_image.proofs.Splices.{spliced-is, content-spliced_inside}
 use Rattle.spec_image.proofs.Words.{word-there, word-beside, word-other}
 use Rattle.blk_record.specs.Fields.{OtherFieldsStay, WrittenWordsAreRead, WrittenFieldsLeaveOthers}
 
--- a window with a word is its front, the four bytes of the word, and the rest
+-- a window with a word is its prefix, the four bytes of the word, and the rest
 with_word-is : (place value : ℕ) (window : List ℕ) → place + 4 ≤ length window → with_word place value window ≡ take place window ++ (word_bytes value ++ drop (place + 4) window)
 unfolding with_word
 with_word-is place value window enough = spliced-is place (word_bytes value) window enough
@@ -42,7 +42,7 @@ written-read place bytes window inside four =
     λ k j e h. content-spliced_inside place bytes window k j e (omega (arith, four)) (omega arith) in
     omega (arith, there 0 place (omega arith) (omega arith), there 1 (place + 1) refl (omega arith), there 2 (place + 2) refl (omega arith), there 3 (place + 3) refl (omega arith))
 
--- and all other fields stay
+-- where a field is written, all other fields stay
 pub written-others : WrittenFieldsLeaveOthers
 written-others size place bytes window at_field four other field apart =
     word-other place bytes window other (omega (arith, four, at_field.aligned)) field.aligned (λ e. apart (omega (arith, field.aligned, at_field.aligned)))

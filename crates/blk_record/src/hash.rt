@@ -2,7 +2,7 @@
 ghost use Rattle.std.specs.Prelude.{◌≡◌, ◌≤◌, length, slice_index};
 ghost use Rattle.spec_format.specs.Hash.{half, hash as hash_of, mixed, of_bytes, of_four, of_one, of_three, of_two, signed};
 
-/// The hash of a key, or of a record's bytes before its seal.
+/// The hash of a key, or of a record's bytes before its checksum.
 pub fn super_fast_hash(bytes: &[u8]) -> u32
     ensures { result ≡ hash_of bytes.now }
 {

@@ -141,7 +141,7 @@ impl<'a> IndexHead<'a> {
         word(self.window, Self::LAST_FILE as usize)
     }
 
-    /// The number of the session, raised at each opening.
+    /// The number of the session, which rises at each opening.
     pub fn this_id(&self) -> u32
         ensures { result ≡ this_id_of (content self.now) }
     {

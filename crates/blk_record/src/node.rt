@@ -6,7 +6,7 @@ use crate::record::{Record, RecordMut};
 use crate::seals::{is_sealed, put_seal};
 use crate::words::{put_word, word};
 
-// The number of the record's bytes, and the place of its seal.
+// The number of the record's bytes, and the place of its checksum.
 const SIZE: usize = 36;
 
 const SEAL: usize = 32;

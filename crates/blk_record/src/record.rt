@@ -1,4 +1,4 @@
-// Sealed records over windows of bytes.
+// Records with checksums, over windows of bytes.
 ghost use Rattle.std.specs.Prelude.{◌≡◌, ℕ, ◌≤◌, List, length, take, true};
 ghost use Rattle.std.specs.Borrow.{Array, GName, Lends, sem, u8 as byte};
 ghost use Rattle.spec_image.specs.Bytes.{content, spliced, word_at};
@@ -6,23 +6,23 @@ ghost use Rattle.spec_image.specs.Steps.{with_word};
 ghost use Rattle.spec_format.specs.Records.{checks, seal_of};
 ghost use Rattle.blk_record.specs.Fields.{IsField, OtherFieldsStay, WrittenFieldsLeaveOthers, WrittenWordsAreRead, field_bytes};
 
-/// A record of little endian words with a seal, which is 0 or the hash of the bytes before it.
+/// A record of little endian words with a checksum. The checksum is absent (0) or the hash of the bytes before it.
 ///
-/// The record lies at the front of a window of bytes.
+/// The record lies at the start of a window of bytes.
 pub trait Record {
     /// The number of the record's bytes, for clauses.
     ghost size: { ℕ };
 
-    /// The place of the seal, for clauses.
+    /// The place of the checksum, for clauses.
     ghost seal_place: { ℕ };
 
-    /// The bytes of the window at whose front the record lies.
+    /// The bytes of the window at whose start the record lies.
     ghost window_of: { Self → List ℕ };
 
     /// The number of the record's bytes.
     const SIZE: usize;
 
-    /// The place of the seal.
+    /// The place of the checksum.
     const SEAL: usize;
 
     /// The bytes of the record.
@@ -35,7 +35,7 @@ pub trait Record {
         requires { IsField size at }
         ensures { result ≡ word_at (content (window_of self.now)) at };
 
-    /// Whether the seal is 0 or the hash of the bytes before it.
+    /// Whether the checksum is 0 or the hash of the bytes before it.
     fn checks(&self) -> bool
         ensures { result ≡ checks seal_place (window_of self.now) };
 }
@@ -56,14 +56,14 @@ pub trait RecordMut: Record {
         ensures others { OtherFieldsStay Self.size at (Self.window_of self.old) (Self.window_of self.new) }
         ensures same_reference { reference self.new ≡ reference self.old };
 
-    /// Makes the seal 0.
+    /// Makes the checksum 0.
     fn unseal(&mut self)
         ensures window { Self.window_of self.new ≡ with_word Self.seal_place 0 (Self.window_of self.old) }
         ensures checks { checks Self.seal_place (Self.window_of self.new) ≡ true }
         ensures others { OtherFieldsStay Self.size Self.seal_place (Self.window_of self.old) (Self.window_of self.new) }
         ensures same_reference { reference self.new ≡ reference self.old };
 
-    /// Makes the seal the hash of the bytes before it.
+    /// Makes the checksum the hash of the bytes before it.
     fn seal(&mut self)
         ensures window { Self.window_of self.new ≡ with_word Self.seal_place (seal_of Self.seal_place (Self.window_of self.old)) (Self.window_of self.old) }
         ensures checks { checks Self.seal_place (Self.window_of self.new) ≡ true }

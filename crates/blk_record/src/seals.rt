@@ -1,4 +1,4 @@
-// The seals of records.
+// The checksums of records.
 ghost use Rattle.std.specs.Prelude.{◌≡◌, ◌+◌, ◌≤◌, length};
 ghost use Rattle.spec_image.specs.Steps.{with_word};
 ghost use Rattle.spec_format.specs.Records.{checks, seal_of};

@@ -242,7 +242,7 @@ counted items bytes id image i b d whole =
 
 -- ---- what stays repaired
 
--- the links are repaired, and what was repaired of the files and of the seals
+-- the links are repaired, and what was repaired of the files and of the checksums stays so
 record StaysMended (entry start image : Image) : Type 0 where
   holds : HasMendedLinksOf entry image
   files : HasMendedFiles start → HasMendedFiles image

@@ -134,7 +134,7 @@ keeps-trans a b c one other = record {
   same = λ n is. other.same n (ap is_some (one.links n) ∙ is) ∙ one.same n is;
 }
 
--- what was sealed is so still
+-- what had its checksum has it still
 linked-seals : (from image : Image) → KeepsLinked from image → StaysSealed from image
 linked-seals from image keeps w st begins was =
     same-sealed from image w (λ i low high. ap (λ (o : Option (List ℕ)). content (unwrap_or o []) i) (keeps.same _ (ap is_some (linked-of from w st begins)))) was

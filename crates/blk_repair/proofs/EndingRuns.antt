@@ -141,7 +141,7 @@ module _ (b c : Told) (items bytes id : ℕ) (small_items : items < 2 ^ 32) (sma
 below : (n x : ℕ) → n ≡ x % 2 ^ 32 → n < 2 ^ 32
 below n x e = omega (arith, e)
 
--- the seals, and then the words of the index, for what was told
+-- the checksums are written, and then the words of the index, by what the scan reported
 module _ (scan : Scan) (words : List ℕ) (w : words ≡ scan.bare.items) (a b c : Told) (entry from : Image) (there : a.files ≡ Some from) (next : IsNextFinished scan entry from) (first : RepairBreaksOff a b (HasMendedLinksOf entry)) (items bytes id : ℕ)
     (items-are : items ≡ length scan.kept.items % 2 ^ 32) (bytes-are : bytes ≡ scan.bytes) (small_bytes : bytes < 2 ^ 64) (small_id : id < 2 ^ 32) (whole : ForSome b.files HasWholeIndex) (sealed : ForSome b.files (AreSealedNow entry from words)) where
   next-counted : ForSome b.files (IsNextCounted entry items bytes)

@@ -28,7 +28,7 @@ use Rattle.blk_repair.proofs.RemovalRuns.{quiet-removals}
 one-less : (n : ℕ) → suc (suc n) - 1 ≡ suc (suc n - 1)
 one-less n = omega arith
 
--- the last of some nodes is in front of their count
+-- the last of some nodes is at the place before their count
 pub last-got : (nodes : List ℕ) → slice_get nodes (length nodes - 1) ≡ last_node_of nodes
 last-got [] = refl
 last-got (node ∷ []) = refl

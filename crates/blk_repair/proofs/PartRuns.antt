@@ -84,7 +84,7 @@ others-same {a} {b} old new claims same others =
 
 -- ---- the rest
 
--- seals, and then the words of the index, for what was told
+-- the checksums are written, and then the words of the index, by what the scan reported
 pub rest-made : (scan : Scan) (entry from : Image) {a b : Told} (c : Told) (words : List ℕ) (items bytes id : ℕ) → words ≡ scan.bare.items → items ≡ length scan.kept.items % 2 ^ 32 → bytes ≡ scan.bytes → a.files ≡ Some from → IsNextFinished scan entry from
     → Applies a b (seals_steps words from) → ForSome b.files (λ mid. Applies b c (index_steps items bytes id mid)) → AppliesOf (MendsRest scan entry id) from a c
 rest-made scan entry from {a} {b} c words items bytes id w i bs there next first second =

@@ -48,7 +48,7 @@ module _ {old now : Told} {whole rest : Image → List TrailStep} (progress : Pr
           subst P (some_inj (sym (now_files from there) ∙ here))
           (along_prefix P (progress.done from) (rest (after (progress.done from) from)) from (subst (Along P from) (progress.split from) (all from there)))
 
-  -- what holds now of every told beginning holds of the files now
+  -- what holds of the files now for each observed start holds of the files now
   pub now_by : (P : Image → Type 0) → ForSome old.files (λ from. ForSome now.files P) → ForSome now.files P
   now_by P holds image here = by_files old.files refl
     where
@@ -68,7 +68,7 @@ module _ {old now : Told} {whole rest : Image → List TrailStep} (progress : Pr
     silent = progress.silent;
   }
 
-  -- nothing is told now only where nothing was
+  -- the folder is opaque now only where it was opaque
   pub was_untold : now.files ≡ None → old.files ≡ None
   was_untold none = by_files old.files refl
     where
@@ -137,7 +137,7 @@ now_has old now steps P made silent holds image here = by_files old.files refl
     by_files None none = absurd (no_some (sym (silent none) ∙ here))
     by_files (Some from) there = subst P (some_inj (sym ((made from there).files ∙ ap (option_map (after (steps from))) there) ∙ here)) (holds from there)
 
--- what holds of the files that are told
+-- what holds of the observed files
 pub told_is : {files : Option Image} (P : Image → Type 0) (from : Image) → files ≡ Some from → P from → ForSome files P
 told_is {files} P from there holds image here = subst P (some_inj (sym there ∙ here)) holds
 

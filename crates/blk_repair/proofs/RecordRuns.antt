@@ -1,4 +1,4 @@
--- Records that check do so still while records are linked.
+-- Where the checksums of records match or are absent, they do so still while records are linked.
 use Rattle.std.proofs.Common.{◌≡◌, ◌⊎◌, ℕ, ◌+◌, ◌*◌, ◌<◌, ◌≤◌, Bool, true, false, List, [], ◌∷◌, inr, refl, ap, ap₂, sym, ◌∙◌, subst, arith}
 use Rattle.std.specs.Prelude.{All, ◌==◌, ◌&&◌, if◌then◌else◌, nat_le, nat_lt}
 use Rattle.std.proofs.lemmas.Bool.{eqb-true, and_left, and_right}
@@ -26,7 +26,7 @@ use Rattle.law_recovery.specs.ChainRepair.{next_steps, next_words_steps}
 use Rattle.blk_repair.specs.Damages.{AllCheck}
 use Rattle.blk_repair.proofs.Choices.{entry_kind, entry_stands, next-open}
 
--- ---- in the midst of an update of one record another checks still
+-- ---- in the midst of an update of one record the checksum of another still matches or is absent
 
 module _ (from image : Image) (w u : ℕ) (kind_w : kind_of w ≡ blocks_256) (kind_u : kind_of u ≡ blocks_256) (changes : List (ℕ × ℕ)) (mid : IsMidUpdate from w changes image) (was : RecordChecks u from) where
   at_others : ((i : ℕ) → place u ≤ i → i < place u + record_size u → (record_range w).bytes (Block (file_selector u)) i ≡ false) → RecordChecks u image
@@ -69,7 +69,7 @@ all-still files from image w (u ∷ words) changes stands all mid are =
 
 -- ---- at each word of the links
 
--- a record that is there and checks gets a next
+-- a record that is there, and whose checksum matches or is absent, gets a next
 module _ (files : BlockFiles) (w x : ℕ) (words : List ℕ) (image : Image) (is : IsOpen files image) (stands : is_record_among files w ≡ true) (all : All (λ u. is_record_among files u ≡ true) words) (checks_w : RecordChecks w image) (are : AllCheck words image) where
   sealed-checks : Along (AllCheck words) image (sealed_steps image w ((entry_next_place, x) ∷ []))
   sealed-checks =
@@ -87,7 +87,7 @@ module _ (files : BlockFiles) (w x : ℕ) (words : List ℕ) (image : Image) (is
   next-checks : Along (AllCheck words) image (next_steps w x image)
   next-checks = choice-checks ((store_of image).chain_next w == x)
 
--- records are linked while others check
+-- records are linked while the checksums of others match or are absent
 links-check-others : (files : BlockFiles) (words others : List ℕ) (image : Image) → IsOpen files image → All (λ u. is_record_among files u ≡ true) words → All (λ u. is_record_among files u ≡ true) others → AllCheck words image → AllCheck others image
     → Along (AllCheck others) image (next_words_steps words image)
 links-check-others files [] others image is stands stand are they = they
@@ -102,7 +102,7 @@ links-check-others files (w ∷ words) others image is stands stand are they =
     until-append (AllCheck others) (AllCheck others) first (next_words_steps words (after first image)) image here
     (links-check-others files words others (after first image) (until_last (IsOpen files) (IsOpen files) first image (next-open files w x image is)) behind stand (until_last (AllCheck words) (AllCheck words) first image left) (until_last (AllCheck others) (AllCheck others) first image here))
 
--- so they check at each word of their own links
+-- so the checksums of records match or are absent at each word of their own links
 pub links-check : (files : BlockFiles) (words : List ℕ) (image : Image) → IsOpen files image → All (λ u. is_record_among files u ≡ true) words → AllCheck words image → Along (AllCheck words) image (next_words_steps words image)
 links-check files words image is stand are = links-check-others files words words image is stand stand are are
 

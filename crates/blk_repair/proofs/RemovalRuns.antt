@@ -41,7 +41,7 @@ first-is : (node : ℕ) (others : List ℕ) → is_first node others ≡ true �
 first-is node [] first = absurd (no-clash first)
 first-is node (k ∷ others) first = (others, ap (λ (n : ℕ). n ∷ others) (sym (eqb-true node k first)))
 
--- in front of a place is what is there
+-- what is left from a place on begins with the node that is there
 at-place : (nodes : List ℕ) (i w : ℕ) → i < length nodes → w ≡ get_or nodes i w → drop i nodes ≡ w ∷ drop (i + 1) nodes
 at-place nodes i w inside is = drop_more nodes i w inside ∙ ap (λ (v : ℕ). v ∷ drop (i + 1) nodes) (sym is)
 

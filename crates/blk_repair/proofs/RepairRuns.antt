@@ -61,7 +61,7 @@ use Rattle.blk_repair.proofs.SealRuns.{MayBeSealed, one-may}
 
 -- ---- two parts
 
--- the files that a call leaves are told where they were
+-- the files that a call leaves are observed where they were before it
 pub still-told : {a b : Told} {P : Image → Type 0} (from : Image) → a.files ≡ Some from → PassesAny a b P → (now : Image) × (b.files ≡ Some now)
 still-told {a} {b} from there passes = (after passes.steps from, passes.applies.files ∙ ap (option_map (after passes.steps)) there)
 
@@ -100,7 +100,7 @@ none-to_mend image is = record { list = refl; seals = keeps-none image; chains =
 pub none-held : (chains : Option KeptChains) (image : Image) → AreBucketsScanned chains image → HoldsTheSame image image
 none-held chains image is = record { well_formed = is.well_formed; writable = is.writable; kept_same = refl; found_same = refl }
 
--- otherwise the kept records are told
+-- otherwise the kept records are reported
 pub chains-told : (chains : KeptChains) (records ends : List ℕ) (whole : List Bool) (image : Image) → records ≡ chains.records.items → ends ≡ chains.ends.items → whole ≡ chains.whole.items → AreBucketsScanned (Some chains) image → AreChainsScanned records ends whole image
 chains-told chains records ends whole image r e w is =
     subst (λ (rs : List ℕ). AreChainsScanned rs ends whole image) (sym r)
@@ -109,7 +109,7 @@ chains-told chains records ends whole image r e w is =
     (record { well_formed = is.well_formed; writable = is.writable; keeps_all = is.keeps_all; are_kept = is.told.are_kept; are_whole = is.told.are_whole })))
 
 module _ (from mid : Image) (holds : HoldsTheSame from mid) (mended : IsListMended from mid) where
-  -- what was told of the chains is so still once the list is repaired
+  -- what was reported of the chains is so still once the list is repaired
   still-chains : (chains : Option KeptChains) → AreChainsTold from chains → AreChainsTold mid chains
   still-chains None told = λ bucket below.
       subst (IsChain (store_of mid) bucket) (sym (records-stay from mid holds mended.store bucket)) (chains-stay from mid mended.store bucket (kept_records from bucket) (told bucket below))
@@ -128,7 +128,7 @@ module _ (from mid : Image) (holds : HoldsTheSame from mid) (mended : IsListMend
     told = still-chains chains told;
   }
 
--- what is kept of an image whose links are repaired is sealed still, but for some
+-- what is kept of an image whose links are repaired still has its checksums, but for some
 still-sealed : (entry from image : Image) (words : List ℕ) → HasMendedLinksOf entry image → KeepsRecordsSealed from image → AreOthersSealed entry words from → AreOthersSealed entry words image
 still-sealed entry from image words holds seals others = λ w of.
     let may : MayBeSealed image w = one-may entry image w holds of in
@@ -150,7 +150,7 @@ links-mended scan from mid last is holds list_mended holds_last chained =
       others = still-sealed from from last scan.bare.items links (keeps-more from mid last list_mended.seals chained.seals) is.scanned.bare.others;
     }
 
--- the list is that of which this was told
+-- the list is that of which the scan reported this
 pub list-scanned : (scan : Scan) (nodes others : List ℕ) (from : Image) → nodes ≡ scan.walked.items → others ≡ scan.kept_nodes.items → IsWritable from → IsRepairable scan from → IsListScanned nodes others from
 list-scanned scan nodes others from n o writable is = record { well_formed = is.well_formed; writable = writable; walked = n ∙ is.scanned.walked; kept_nodes = o ∙ is.scanned.kept_nodes }
 
@@ -169,7 +169,7 @@ module _ (scan : Scan) (a b : Told) (from : Image) (there : a.files ≡ Some fro
 
 -- ---- the files
 
--- deletions tell nothing where nothing was told
+-- deletions leave an opaque folder opaque
 pub silent-deletions : (goes : File → Bool) (first : File) {a b : Told} → DeletesSome goes first a b → a.files ≡ None → b.files ≡ None
 silent-deletions goes first {a} {b} some none = some.1.applies.files ∙ ap (option_map (after (deletions (filter goes some.1.files)))) none
 
@@ -223,7 +223,7 @@ pub same-files : (old new : BlockFiles) → ((kind : ℕ) → files_of new kind 
 unfolding all_files
 same-files old new same = rw (same 1, same 2, same 3, same 4) refl
 
--- what was valid can be sealed still
+-- what was valid can still get its checksum
 pub still-sealable : (old new : BlockFiles) (words : List ℕ) → KeepsStanding old new → All (CanBeSealed old) words → All (CanBeSealed new) words
 still-sealable old new words keeps can = All-weaker (CanBeSealed old) (CanBeSealed new) (λ w is. record { stands = keeps w is.stands; begins = is.begins }) words can
 
@@ -241,7 +241,7 @@ kept-few entry image holds =
 small-rest : (n : ℕ) → n ≤ 131072 → n % 2 ^ 32 ≡ n
 small-rest n few = omega (arith, few)
 
--- so many items with so many bytes were told
+-- so many items with so many bytes were reported
 pub counted-told : (scan : Scan) (entry image : Image) (items bytes : ℕ) → items ≡ length scan.kept.items % 2 ^ 32 → bytes ≡ scan.bytes → IsScanOf entry scan → HasMendedLinksOf entry image → IsNextCounted entry items bytes image
 counted-told scan entry image items bytes i b told holds =
     let long : length scan.kept.items ≡ length (kept entry) = ap length told.kept_told ∙ length-map (kept entry) kept_as_told in
@@ -276,7 +276,7 @@ pub links-mid : (entry image : Image) → HasMendedLinksOf entry image → IsMid
 links-mid entry image holds = keeps-mid entry image holds.keeps
 
 module _ (scan : Scan) (words : List ℕ) (w : words ≡ scan.bare.items) where
-  -- the seals are next
+  -- the checksums are next
   pub seals-next : (entry from : Image) → IsNextFinished scan entry from → IsNextSealed entry words from
   seals-next entry from next = record { holds = next.links.holds; are_kept = subst (All (IsOfKept entry)) (sym w) next.links.scanned.bare.are_kept }
 
@@ -335,7 +335,7 @@ claims-kept entry from claims next = subst (λ (ks : List Loaded). IsClaimsOf cl
 pub files-right : (entry from : Image) (claims : Claims) (files : BlockFiles) → IsNextRebuilt entry claims from → IsOpen files from → HasMendedFiles from → AreRight claims files from
 files-right entry from claims files next is mended = right-files claims files from (λ n. linked-among files from n is.agrees) is.agrees mended (claims-kept entry from claims next)
 
--- no seals, and then the words of the index
+-- no checksums are written, and then the words of the index
 pub rest-clean : (scan : Scan) (entry from : Image) (a b c : Told) (words : List ℕ) (items bytes id : ℕ) → words ≡ scan.bare.items → items ≡ length scan.kept.items % 2 ^ 32 → bytes ≡ scan.bytes → a.files ≡ Some from → IsNextFinished scan entry from
     → scan.bare.items ≡ [] → Applies a b (seals_steps words from) → ForSome b.files (λ mid. Applies b c (index_steps items bytes id mid)) → Applies a c (counting_steps entry id from)
 rest-clean scan entry from a b c words items bytes id w i bs there next bare first second =

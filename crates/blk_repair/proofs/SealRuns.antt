@@ -1,4 +1,4 @@
--- How nodes and records of what is kept are sealed one after the other, and what is held on the way.
+-- How kept nodes and records get their checksums one after the other, and what is held on the way.
 use Rattle.std.proofs.Common.{◌≡◌, ℕ, ◌+◌, ◌<◌, ◌≤◌, Bool, true, false, List, [], ◌∷◌, length, drop, get_or, ◌⊎◌, ⊎_elim, inl, inr, refl, sym, ◌∙◌, ap, subst, arith}
 use Rattle.std.specs.Prelude.{All, Contains, map, if◌then◌else◌}
 use Rattle.std.specs.Option.{ForSome}
@@ -61,7 +61,7 @@ seal-writable : (image : Image) (w : ℕ) → IsWritable image → Along IsWrita
 unfolding seal_steps
 seal-writable image w is = choice-writable image (is_sealed (seal_place w) (record_at image w)) (file_selector w) (place w + seal_place w) (seal_of (seal_place w) (record_at image w)) is
 
--- what a seal leaves open
+-- what the write of a checksum leaves open
 word-open : (files : BlockFiles) (image : Image) (w at x : ℕ) → IsOpen files image → Along (IsOpen files) image (word_step (Block (file_selector w)) (place w + at) x)
 unfolding word_step
 word-open files image w at x is = (
@@ -103,7 +103,7 @@ seals-quiet (w ∷ words) image = quiet-append (seal_steps image w) (seals_steps
 
 -- One of what is kept.
 
--- the record of an address of what is kept is there and checks, and may be sealed
+-- the record at a kept address is there, its checksum matches or is absent, and it may get the hash as its checksum
 pub record MayBeSealed (image : Image) (w : ℕ) : Type 0 where
   pub stands : stands_in image w ≡ true
   pub begins : BeginsWithRecord w
@@ -135,7 +135,7 @@ one-along entry image w holds may =
 one-holds : (entry image : Image) (w : ℕ) → HasMendedLinksOf entry image → MayBeSealed image w → (between : Image) → IsMidUpdate image w [] between × IsWritable between → HasMendedLinksOf entry between
 one-holds entry image w holds may between both = record { writable = both.1; keeps = links-on entry image between holds.keeps (may.keeps between both.0) }
 
--- where each record of what is kept is sealed, what is kept is
+-- where each of these addresses has its checksum, all that is kept has its checksums
 kept-sealed : (entry from image : Image) (words : List ℕ) → HasMendedLinksOf entry from → HasMendedLinksOf entry image → KeepsRecordsSealed from image → All (IsSealedAt image) words → AreOthersSealed entry words from → AreKeptSealed image
 kept-sealed entry from image words was is seals sealed others = laws.all-sealed image is.writable (λ node there. one node (inl (now node there))) (λ w there. one w (inr (now-record w there))) where
   now : (node : ℕ) → is_among (map (λ k. k.node) (kept image)) node ≡ true → is_among (map (λ k. k.node) (kept entry)) node ≡ true
@@ -149,7 +149,7 @@ kept-sealed entry from image words was is seals sealed others = laws.all-sealed 
       let may : MayBeSealed from w = one-may entry from w was of in
       ⊎_elim (λ (before : IsSealedAt from w). seals.sealed w may.stands may.begins before) (λ (among : Contains words w). All-contains (IsSealedAt image) words w sealed among) (others w of)
 
--- it is sealed, and the links stay repaired at each word
+-- a kept record gets its checksum, and the links stay repaired at each word
 one-sealed : (entry image : Image) (w : ℕ) → HasMendedLinksOf entry image → IsOfKept entry w → Along (HasMendedLinksOf entry) image (seal_steps image w) × AreSealedNow entry image (w ∷ []) (after (seal_steps image w) image)
 one-sealed entry image w holds of =
     let may : MayBeSealed image w = one-may entry image w holds of in
@@ -203,14 +203,14 @@ all-sealed entry image (w ∷ words) holds of =
           }),
     )
 
--- so they check at each word
+-- so the checksums of these nodes and records match or are absent at each word
 pub seals-check : (entry image : Image) (words : List ℕ) → IsNextSealed entry words image → Along (AllCheck words) image (seals_steps words image)
 seals-check entry image words next =
     let H : Image → Type 0 = HasMendedLinksOf entry in
     let check : (between : Image) → H between → AllCheck words between = (λ between holds. All-weaker (IsOfKept entry) (λ w. RecordChecks w between) (λ w of. (one-may entry between w holds of).checks) words next.are_kept) in
     until_weaker2 H (AllCheck words) H (AllCheck words) (seals_steps words image) image check check (all-sealed entry image words next.holds next.are_kept).0
 
--- the first of the rest is sealed, and then the others
+-- the first of the rest gets its checksum, and then the others
 pub seals-lead : (words : List ℕ) (i w : ℕ) → i < length words → w ≡ get_or words i w → Leads (seals_steps (drop i words)) (λ image. seal_steps image w) (seals_steps (drop (i + 1) words))
 seals-lead words i w inside is image =
     let more : List ℕ = drop (i + 1) words in

@@ -72,7 +72,7 @@ now-there old now from bucket to there = to.applies.files ∙ ap (option_map (af
 pub stays-mended : {old now next : Told} {records ends : List ℕ} {whole : List Bool} {bucket : ℕ} → next ≡ now → AreMendedTo old now records ends whole bucket → AreMendedTo old next records ends whole bucket
 stays-mended {old} {now} {next} {records} {ends} {whole} {bucket} same are = subst (λ (t : Told). AreMendedTo old t records ends whole bucket) (sym same) are
 
--- nothing is told now only where nothing was
+-- the folder is opaque now only where it was opaque
 pub were-untold : (old now : Told) (records ends : List ℕ) (whole : List Bool) (bucket : ℕ) → AreMendedTo old now records ends whole bucket → ForSome old.files (AreChainsScanned records ends whole) → now.files ≡ None → old.files ≡ None
 were-untold old now records ends whole bucket are scanned none = by_files old.files refl
   where
@@ -105,7 +105,7 @@ module _ (old now : Told) (records ends : List ℕ) (whole : List Bool) (bucket 
       by_files None none = absurd (no_some (sym (are.silent none) ∙ here))
       by_files (Some from) there = (from, next-is old now records ends whole bucket front own told from inside own-is told-is read (scanned from there) (are.mended from there (scanned from there)) image here)
 
-  -- so its records check
+  -- so the checksums of its records match or are absent
   pub own-check : ForSome old.files (AreChainsScanned records ends whole) → ForSome now.files (AllCheck own)
   own-check scanned image here =
       let next : (from : Image) × IsNextBucket from bucket front own told image = has-next scanned image here in

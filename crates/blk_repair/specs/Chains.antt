@@ -21,7 +21,7 @@ pub record IsNextChain (from : Image) (bucket : ℕ) (records : List ℕ) (image
 abbrev pub IsBucketWord : (front bucket : ℕ) → Image → Type 0
 IsBucketWord front bucket image = front ≡ bucket_of (byte image Index) bucket
 
--- the recovery comes to this bucket: if it was told to be whole, its chain has exactly its kept records already; if not, its word was read
+-- the recovery comes to this bucket: if it was reported whole, its chain has exactly its kept records already; if not, its word was read
 pub record IsNextBucket (from : Image) (bucket front : ℕ) (records : List ℕ) (whole : Bool) (image : Image) : Type 0 where
   pub next : IsNextChain from bucket records image
   pub is_whole : whole ≡ true → IsChain (store_of from) bucket records
@@ -35,7 +35,7 @@ KeepsOtherBuckets bucket from image = (other : ℕ) → other ≢ bucket → buc
 abbrev pub AreBucketWords : (words : List ℕ) (bucket last : ℕ) → Image → Type 0
 AreBucketWords words bucket last image = (other : ℕ) → bucket ≤ other → other < last → slice_index words (other % buckets_of_piece) ≡ bucket_of (byte image Index) other
 
--- the LRU list is recovered, `records` has the kept records of all buckets, and the chain of each bucket that is told to be whole has exactly its records
+-- the LRU list is recovered, `records` has the kept records of all buckets, and the chain of each bucket that is reported whole has exactly its records
 pub record AreChainsScanned (records ends : List ℕ) (whole : List Bool) (image : Image) : Type 0 where
   pub well_formed : IsWellFormed image
   pub writable : IsWritable image

@@ -49,23 +49,23 @@ is_unclaimed claims (External number) = not (is_number_claimed claims number)
 abbrev pub deletion_of : (File → Bool) → File → List TrailStep
 deletion_of goes file = if goes file then Delete file ∷ [] else []
 
--- of the files behind `first` up to `last`, exactly those that `goes` selects were deleted, in their order
+-- of the files after `first` up to `last`, exactly those that `goes` selects were deleted, in their order
 pub record DeletesUpTo (goes : File → Bool) (first last : File) (old new : Told) : Type 0 where
   pub files : List File
   pub listed : ForSome old.files (λ from. Lists from first files last)
   pub applies : Applies old new (deletions (filter goes files))
 
--- of the files behind `first` up to some file, exactly those that `goes` selects were deleted
+-- of the files after `first` up to some file, exactly those that `goes` selects were deleted
 abbrev pub DeletesSome : (File → Bool) → File → Told → Told → Type 0
 DeletesSome goes first old new = (last : File) × DeletesUpTo goes first last old new
 
--- all files behind `first` that `goes` selects were deleted
+-- all files after `first` that `goes` selects were deleted
 pub record DeletesAll (goes : File → Bool) (first : File) (old new : Told) : Type 0 where
   pub last : File
   pub up_to : DeletesUpTo goes first last old new
   pub rest : ForSome old.files (λ from. (file : File) → IsBefore last file → has_file from file ≡ true → goes file ≡ false)
 
--- the steps delete all files of the image behind `first` that `goes` selects, in the order of files
+-- the steps delete all files of the image after `first` that `goes` selects, in the order of files
 pub record Deletes (goes : File → Bool) (first : File) (image : Image) (steps : List TrailStep) : Type 0 where
   pub files : List File
   pub last : File

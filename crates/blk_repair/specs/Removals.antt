@@ -29,7 +29,7 @@ steps_from_end walked kept image = ending_steps (last_node_of walked) image ++ r
 abbrev pub mending_steps : (walked kept : List ℕ) → Image → List TrailStep
 mending_steps walked kept image = completion_steps image ++ steps_from_end walked kept (after (completion_steps image) image)
 
--- what a scan tells of the list: `nodes` are those that a walk meets after the redo, and `others` those of the kept entries
+-- what a scan reports of the list: `nodes` are those that a walk meets after the redo, and `others` those of the kept entries
 pub record IsListScanned (nodes others : List ℕ) (image : Image) : Type 0 where
   pub well_formed : IsWellFormed image
   pub writable : IsWritable image

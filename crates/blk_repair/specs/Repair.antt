@@ -1,4 +1,4 @@
--- The whole recovery of a folder, by what the scan told.
+-- The whole recovery of a folder, by what the scan reported.
 use Rattle.std.specs.Prelude.{ℕ, ◌≡◌, ◌⊎◌, ◌+◌, ◌%◌, ◌^◌, ◌==◌, if◌then◌else◌, List, [], length}
 use Rattle.std.specs.List.{sum_by}
 use Rattle.std.specs.declared.option.Option.{Option}
@@ -55,7 +55,7 @@ pub record IsRepairedFor (id : ℕ) (entry image : Image) : Type 0 where
 abbrev pub IsRepaired : Image → Image → Type 0
 IsRepaired entry image = IsRepairedFor (next_id (this_id_of (byte entry Index))) entry image
 
--- links and files need no recovery, and no checksum was told to be absent; only words of the index are left
+-- links and files need no recovery, and no checksum was reported as absent; only words of the index are left
 pub record NeedsOnlyWords (scan : Scan) (image : Image) : Type 0 where
   pub links : HasMendedLinks image
   pub files : HasMendedFiles image
@@ -86,14 +86,14 @@ RepairsInOrder files scan entry id = InTurn MendsLinks (InTurn (MendsFiles files
 
 -- Between the parts.
 
--- the LRU list is recovered, and `chains` is what the scan told of the chains
+-- the LRU list is recovered, and `chains` is what the scan reported of the chains
 pub record AreBucketsScanned (chains : Option KeptChains) (image : Image) : Type 0 where
   pub well_formed : IsWellFormed image
   pub writable : IsWritable image
   pub keeps_all : KeepsAllWalked image
   pub told : AreChainsTold image chains
 
--- the links are recovered of the folder that was scanned, and of what is kept only the told ones lack their checksum
+-- the links are recovered of the folder that was scanned, and of what is kept only the reported ones lack their checksum
 pub record AreLinksMended (scan : Scan) (entry image : Image) : Type 0 where
   pub scanned : IsScanOf entry scan
   pub holds : HasMendedLinksOf entry image

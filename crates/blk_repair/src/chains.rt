@@ -14,11 +14,11 @@ use blk_addr::Addr;
 use blk_disk::BlockFiles;
 use blk_io::{Fault, Folder};
 
-// Makes a bucket the chain of some records, from the front: the word of the bucket, as it was read, names the first of
-// them, each has the one after it as its next, and the last has 0.
+// Makes a bucket the chain of some records, from its head on: the word of the bucket, as it was read, names the first of them, each has the one after it as its
+// next, and the last has 0.
 //
-// A word is written only where it differs. A record that is to be written and doesn't check is corruption, and so are
-// too few bytes. This takes at most one folder call and six for each record.
+// A word is written only where it differs. A wrong checksum of a record that is to be written is corruption, and so are too few bytes. This takes at most one
+// folder call and six for each record.
 pub(crate) fn mend_chain<F: Folder>(
     folder: &mut F,
     files: &BlockFiles,
@@ -34,7 +34,7 @@ pub(crate) fn mend_chain<F: Folder>(
     ensures others { OnOk result (ForSome (F.told folder.old).files (λ from. ForSome (F.told folder.new).files (KeepsOtherBuckets bucket from))) }
     ensures is_open { ForSome (F.told folder.new).files (IsOpen files.now) }
 
-    // An observable folder reports corruption only where not all of the records check.
+    // An observable folder reports corruption only where one of the records has a wrong checksum.
     ensures damaged { IfDamaged result (IsFailedLink files.now (F.told folder.new)) }
     ensures untold { ForSome (F.told folder.old).files (AllCheck records.now) → IfDamaged result (λ _. (F.told folder.old).files ≡ None) }
 {
@@ -50,7 +50,7 @@ fn link<F: Folder>(folder: &mut F, files: &BlockFiles, records: &[Addr]) -> Resu
     ensures prefix { MakesPartOf (F.told folder.old) (F.told folder.new) (λ from. next_words_steps records.now from) }
     ensures damaged { IfDamaged result (IsFailedLink files.now (F.told folder.new)) }
 
-    // An observable folder reports corruption only where not all of the records check.
+    // An observable folder reports corruption only where one of the records has a wrong checksum.
     ensures untold { ForSome (F.told folder.old).files (AllCheck records.now) → IfDamaged result (λ _. (F.told folder.old).files ≡ None) }
     ensures later { F.faults folder.old ≤ F.faults folder.new }
     ensures device { IfDevice result (Rises (F.faults folder.old) (F.faults folder.new)) }

@@ -33,7 +33,7 @@ pub fn mend_index<F: Folder>(
     ensures prefix { MakesPartOf (F.told folder.old) (F.told folder.new) (λ from. index_steps items bytes this_id from) }
 
     // Where the links are repaired they stay so at each word, with the same kept and found; in the end the counters count what is kept, and what was repaired
-    // of the files and of the seals is so still.
+    // of the files and of the checksums is so still.
     ensures mended { OnOk result (ForSome (F.told folder.old).files (λ from. (entry : Image) → IsNextCounted entry items bytes from → ForSome (F.told folder.new).files (IsIndexMended entry from))) }
     ensures stops { ForSome (F.told folder.old).files (λ from. (entry : Image) → HasMendedLinksOf entry from → PassesAny (F.told folder.old) (F.told folder.new) (HasMendedLinksOf entry)) }
 

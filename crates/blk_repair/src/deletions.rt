@@ -33,7 +33,7 @@ pub fn delete_unlinked<F: Folder>(folder: &mut F, files: &BlockFiles) -> Result<
     ensures prefix { DeletesSome (is_unlinked files.now) last_first_file (F.told folder.old) (F.told folder.new) }
 
     // Where the links are repaired they stay so at each deletion, with the same kept and found, and the crash word is spared; and what was repaired of the
-    // files and of the seals is so still.
+    // files and of the checksums is so still.
     ensures stops { ForSome (F.told folder.old).files (λ from. (entry : Image) → HasMendedLinksOf entry from → RepairBreaksOff (F.told folder.old) (F.told folder.new) (IsMidDeletion entry from)) }
 
     ensures is_open { ForSome (F.told folder.new).files (IsOpen files.now) }
@@ -64,7 +64,7 @@ pub fn delete_unclaimed<F: Folder>(folder: &mut F, claims: &Claims) -> Result<()
     ensures prefix { DeletesSome (is_unclaimed claims.now) last_block_file (F.told folder.old) (F.told folder.new) }
 
     // The links then stay repaired at each deletion, with the same kept and found, and the crash word is spared; and what was repaired of the files and of the
-    // seals is so still.
+    // checksums is so still.
     ensures stops { ForSome (F.told folder.old).files (λ from. (entry : Image) → IsNextRebuilt entry claims.now from → RepairBreaksOff (F.told folder.old) (F.told folder.new) (IsMidDeletion entry from)) }
 
     ensures is_open { (files : BlockFiles) → ForSome (F.told folder.old).files (IsOpen files) → ForSome (F.told folder.new).files (IsOpen files) }
@@ -109,7 +109,7 @@ fn delete_block<F: Folder>(folder: &mut F, files: &BlockFiles, n: u8) -> Result<
     folder.delete(FileId::Block(n))
 }
 
-// The first existing external file after a file, behind which no block file comes.
+// The first existing external file after a file, after which no block file comes.
 fn next_external<F: Folder>(folder: &mut F, last: FileId) -> Result<Option<u32>, Failed>
     requires past { IsBefore (file_of last) last_block_file → ⊥ }
     ensures after { IfOk result (λ next. ForSome next (λ number. IsBefore (file_of last) (external number))) }

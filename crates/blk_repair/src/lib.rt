@@ -1,9 +1,8 @@
-//! Repair of a folder, by what its audit told.
+//! Recovery of a folder, by what its scan reported.
 //!
-//! `repairing` is the whole of it, joined of its parts: `list` repairs the LRU list, for which `removals` takes the nodes
-//! out that are not kept, `chains` makes a bucket the chain of its kept records, and `tables` does so with every bucket;
-//! after them `maps` makes lengths, maps and counters of the block files right, `deletions` deletes the files that
-//! nothing names, `seals` seals what is kept, and `counters` makes the words of the index right.
+//! `repairing` is the whole of it, joined of its parts: `list` repairs the LRU list, for which `removals` takes the nodes out that are not kept, `chains` makes
+//! a bucket the chain of its kept records, and `tables` does so with every bucket; after them `maps` makes lengths, maps and counters of the block files right,
+//! `deletions` deletes the files that nothing names, `seals` writes the absent checksums of what is kept, and `counters` makes the words of the index right.
 #![tactic(auto)]
 
 mod chains;

@@ -38,7 +38,7 @@ pub fn mend_files<F: Folder>(
     ensures rebuilds { ForSome (F.told folder.old).files (λ from. AppliesOf (Rebuilds files.old claims.now) from (F.told folder.old) (F.told folder.new)) }
 
     // Where the links are repaired they stay so at each word, with the same kept and found; where the used blocks are those of what is kept the files are
-    // repaired in the end, and what was sealed is so still.
+    // repaired in the end, and what had its checksum has it still.
     ensures mended { OnOk result (ForSome (F.told folder.old).files (λ from. (entry : Image) → IsNextRebuilt entry claims.now from → ForSome (F.told folder.new).files (AreFilesMended entry from))) }
     ensures stops { ForSome (F.told folder.old).files (λ from. (entry : Image) → KeepsMendedLinks entry from → Passes (F.told folder.old) (F.told folder.new) (KeepsMendedLinks entry)) }
     ensures is_open { ForSome (F.told folder.new).files (IsOpen files.new) }

@@ -36,8 +36,8 @@ use blk_io::{Failed, Fault, Folder};
 use blk_record::{IndexHead, WORD_VALUES};
 use blk_scan::Scan;
 
-/// Recovers a folder by what its scan told: the LRU list, the chains, the block files, the files that nothing names, the checksums, and the words of the index.
-/// The last step sets the crash word to 1, in a session with the next number.
+/// Recovers a folder by what its scan reported: the LRU list, the chains, the block files, the files that nothing names, the checksums, and the words of the
+/// index. The last step sets the crash word to 1, in a session with the next number.
 ///
 /// It takes no memory and walks nothing. At each word the same is kept and found, so it may crash anywhere and be begun
 /// again. A failed check is one of a part. An observable folder gives none where the scan is its own.
@@ -56,8 +56,7 @@ pub fn repair<F: Folder>(f: &mut F, files: &mut BlockFiles, scan: &Scan) -> Resu
     // found.
     ensures mended { OnOk result (ForSome (F.told f.old).files (λ from. IsRepairable scan.now from → ForSome (F.told f.new).files (IsRepaired from))) }
 
-    // Where it is cut short the crash word wasn't written, or it was by the last step, and all is repaired as at its
-    // end.
+    // Where the recovery is cut short, the crash word wasn't written, or the last step wrote it, and all is repaired as at the end.
     ensures stops { ForSome (F.told f.old).files (λ from. IsRepairable scan.now from → EndsOrBreaksOff (F.told f.old) (F.told f.new) (IsMidRepair from) (IsRepaired from)) }
 
     // The steps are those of the parts, in their order; the last makes the crash word 1, and no other writes inside it.
@@ -200,7 +199,7 @@ fn mend_links<F: Folder>(folder: &mut F, files: &BlockFiles, scan: &Scan) -> Res
     mend_buckets(folder, files, scan)
 }
 
-// Gives each bucket exactly the chain of its kept records, where the scan tells of one that hasn't.
+// Gives each bucket exactly the chain of its kept records, where the scan reports one that hasn't.
 fn mend_buckets<F: Folder>(folder: &mut F, files: &BlockFiles, scan: &Scan) -> Result<(), Fault>
     requires stand { ChainsStandIf files.now scan.now.chains }
     requires is_open { ForSome (F.told folder.old).files (IsOpen files.now) }

@@ -14,8 +14,8 @@ use blk_io::{Fault, Folder};
 
 /// Writes the checksums of some nodes and records: where one isn't the hash of the bytes before it, it becomes that hash.
 ///
-/// A seal that is the hash already isn't written. One that is neither 0 nor the hash is corruption, and so are too few
-/// bytes. This takes at most two folder calls for each of them.
+/// A checksum that is the hash already isn't written. One that is neither 0 nor the hash is corruption, and so are too few bytes. This takes at most two folder
+/// calls for each of them.
 pub fn seal_records<F: Folder>(
     folder: &mut F,
     files: &BlockFiles,
@@ -26,8 +26,8 @@ pub fn seal_records<F: Folder>(
     ensures steps { OnOk result (ForSome (F.told folder.old).files (λ from. Applies (F.told folder.old) (F.told folder.new) (seals_steps records.now from))) }
     ensures prefix { MakesPartOf (F.told folder.old) (F.told folder.new) (λ from. seals_steps records.now from) }
 
-    // Where the links are repaired and these nodes and records are kept, the links stay so at each word, with the same kept and found; in the end these are
-    // sealed, so all that is kept is where the others were, and what was sealed or repaired of the files is so still.
+    // Where the links are repaired and these nodes and records are kept, the links stay so at each word, with the same kept and found; in the end these have
+    // their checksums, so all that is kept has them if the others had, and what had its checksum or was repaired of the files is so still.
     ensures sealed { OnOk result (ForSome (F.told folder.old).files (λ from. (entry : Image) → IsNextSealed entry records.now from → ForSome (F.told folder.new).files (AreSealedNow entry from records.now))) }
     ensures stops { ForSome (F.told folder.old).files (λ from. (entry : Image) → IsNextSealed entry records.now from → Passes (F.told folder.old) (F.told folder.new) (HasMendedLinksOf entry)) }
 

@@ -23,11 +23,10 @@ use blk_io::{Fault, Folder};
 
 /// Recovers the hash chains: that of each bucket gets exactly its kept records, in rising order of the buckets.
 ///
-/// `records` are the kept records of all buckets, bucket after bucket and each chain in its order. `ends` tells for each of
-/// the 65536 buckets where its records end among them, so they begin where those of the bucket before end. A bucket for
-/// which `whole` is true is the chain of its records already. The words of 16384 buckets are read by one call, and only
-/// where one of them isn't told whole: so the table takes at most 4 calls beside its writes. A record that is to be written
-/// and doesn't check is corruption, and so are too few bytes.
+/// `records` are the kept records of all buckets, bucket after bucket and each chain in its order. `ends` has for each of the 65536 buckets where its records
+/// end among them, so they begin where those of the bucket before end. A bucket for which `whole` is true is the chain of its records already. The words of
+/// 16384 buckets are read by one call, and only where one of them isn't reported whole: so the table takes at most 4 calls beside its writes. A wrong checksum
+/// of a record that is to be written is corruption, and so are too few bytes.
 pub fn mend_chains<F: Folder>(
     folder: &mut F,
     files: &BlockFiles,
@@ -71,8 +70,8 @@ pub fn mend_chains<F: Folder>(
     Ok(())
 }
 
-// Reads the words of the piece of the table in which a bucket is, unless it is told whole or they were read: the words
-// of the buckets before `read` were. Gives the bucket up to which they are read then.
+// Reads the words of the piece of the table in which a bucket is, unless it is reported whole or they were read: the words of the buckets before `read` were.
+// Gives the bucket up to which they are read then.
 fn read_piece<F: Folder>(
     folder: &mut F,
     whole: bool,
@@ -96,7 +95,7 @@ fn read_piece<F: Folder>(
     Ok(u32::from(first) + BUCKETS_OF_PIECE as u32)
 }
 
-// Gives a bucket exactly the chain of its kept records, unless it is told whole.
+// Gives a bucket exactly the chain of its kept records, unless it is reported whole.
 fn mend_bucket<F: Folder>(
     folder: &mut F,
     files: &BlockFiles,

@@ -1,4 +1,4 @@
--- What has no seal of what is kept.
+-- The kept nodes and records without a checksum.
 use Rattle.std.proofs.Common.{◌≡◌, ◌≢◌, ◌<◌, ◌⊎◌, inl, inr, ℕ, zero, suc, Bool, true, false, List, [], ◌∷◌, ◌++◌, map, length, None, Some, if◌then◌else◌, refl, sym, ap, ap₂, subst, ◌∙◌, ⊎_elim, arith}
 use Rattle.std.specs.Prelude.{All, Contains, slice_index_or, ◌==◌, ◌&&◌}
 use Rattle.std.specs.List.{filter}
@@ -68,7 +68,7 @@ filter_both p q k (x ∷ xs) same =
 not_zero : (n : ℕ) → (n == 0) ≡ false → n ≢ 0
 not_zero n e z = let c : true ≡ false = sym (eq-eqb n 0 z) ∙ e in absurd cc
 
--- A record of what is kept is there, and checks.
+-- A kept record is there, and its checksum matches or is absent.
 
 pub record IsGood (image : Image) (w : ℕ) : Type 0 where
   kind : kind_of w ≡ blocks_256
@@ -109,7 +109,7 @@ entries_stand files image said words agrees are words_are =
     let is : is_kept_record (kept image) w ≡ true = sym (same_entries image (kept image) said w are) ∙ among_at (map (λ (s : Loaded). s.entry) said) k d inside in
     names_stand files image w agrees ∙ (kept_good image (kept image) said w are is).stands)
 
--- What is told.
+-- What a scan reports of absent checksums.
 
 module _ (image : Image) (small : AreBytes image) (said : List Loaded) (are : AreShown image (kept image) said) (keep : ℕ → Bool) (keeps : (w : ℕ) → keep w ≡ is_among (map (λ (s : Loaded). s.node) said) w) where
   abbrev entries : List ℕ
@@ -162,7 +162,7 @@ module _ (image : Image) (small : AreBytes image) (said : List Loaded) (are : Ar
     others = λ w of. ⊎_elim (λ (among : is_among (map (λ (k : shown.Loaded). k.node) (kept image)) w ≡ true). node_covered w among) (λ (is : is_kept_record (kept image) w ≡ true). record_covered w is) of;
   }
 
-  -- the walked nodes that are kept and bare are those of what is kept that are
+  -- the walked nodes that are kept and have no checksum are the nodes of the kept entries that have none
   bare_nodes_are : filter (is_kept_bare_node keep image) (completed_walk image) ≡ filter (is_bare_node image) (map (λ (k : shown.Loaded). k.node) (kept image))
   unfolding kept
   bare_nodes_are =

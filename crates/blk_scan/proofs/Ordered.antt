@@ -1,4 +1,4 @@
--- What is told in the order of the walk is what is kept and dropped of it.
+-- What is reported in the order of the walk is what is kept and dropped of it.
 use Rattle.std.proofs.Common.{◌≡◌, ◌+◌, ℕ, Bool, List, [], ◌∷◌, map, Option, None, Some, Result, Ok, Err, refl, sym, ap, ap₂, subst, ◌∙◌}
 use Rattle.std.specs.List.{AllZip, cons_option, filter_map, sum_by}
 use Rattle.std.proofs.lemmas.List.Sums.{sum_by-cons}
@@ -61,7 +61,7 @@ module _ (image : Image) (said : List Loaded) (given : ℕ → Option (Result sh
       go (Some (Err why)) (Some (outcome.Kept i)) is ds rs more = absurd is
       go (Some (Err why)) (Some (outcome.Dropped reason)) is ds rs more = ap₂ (λ (r : reasons.Reason) (l : List (ℕ × reasons.Reason)). (node, r) ∷ l) is more
 
--- What is told of the kept records.
+-- What is reported of the kept records.
 
 module _ (image : Image) where
   kept_same : (loaded : shown.Loaded) (said : Loaded) → IsLoadedFrom image loaded said → kept_by_record said ≡ kept_as_told loaded

@@ -200,7 +200,7 @@ module _ (keep : ℕ → Bool) (records ends : List ℕ) (closed : List Bool) wh
     pub packed_next : ArePacked keep records ends closed (n + 1) new
     packed_next = subst (λ (m : ℕ). ArePacked keep records ends closed m new) (next_number n) packed_more
 
--- What is told by all of them.
+-- What the chains of all buckets together say.
 
 -- the records of what is kept are those that are kept in memory
 pub same_entries : (image : Image) (ks : List shown.Loaded) (said : List Loaded) (w : ℕ) → AreShown image ks said → is_among (map (λ (s : Loaded). s.entry) said) w ≡ is_kept_record ks w
@@ -209,7 +209,7 @@ same_entries image [] (s ∷ said) w are = absurd are
 same_entries image (k ∷ ks) [] w are = absurd are
 same_entries image (k ∷ ks) (s ∷ said) w are = ap₂ (λ (a b : Bool). a || b) (ap (λ (e : ℕ). e == w) are.0.is.entry) (same_entries image ks said w are.1)
 
--- a place that tells false
+-- a place where the list has false
 record IsOpenAt (ws : List Bool) : Type 0 where
   place : ℕ
   inside : place < length ws
@@ -251,7 +251,7 @@ module _ (image : Image) (reached : Reached) (chains : KeptChains) (keep : ℕ �
       each (w ∷ ws) zero inside all = (and_parts w (list_all (λ whole. whole) ws) all).0
       each (w ∷ ws) (suc i) inside all = each ws i (omega (arith, inside)) (and_parts w (list_all (λ whole. whole) ws) all).1
 
-  -- a bucket that is the chain of its kept records is told whole
+  -- a bucket that is the chain of its kept records is reported whole
   told_whole : (b : ℕ) → b < 65536 → IsChain (store_of image) b (kept_records image b) → slice_index_or chains.whole.items b false ≡ true
   told_whole b below is =
       let e : chain (store_of image) b ≡ record { reached = kept_records image b; end = 0 } = chain-is (store_of image) b (kept_records image b) (no-record image) is in

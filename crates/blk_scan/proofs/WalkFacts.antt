@@ -1,4 +1,4 @@
--- Walked nodes are few, and what is made of each in turn.
+-- Walked nodes are few, and what is made of each, one after the other.
 use Rattle.std.proofs.Common.{inl, ◌≡◌, ◌≤◌, ◌<◌, ◌+◌, ℕ, zero, suc, Bool, true, false, List, [], ◌∷◌, ◌++◌, Option, None, Some, take, length, sym, ap, subst, ◌∙◌, arith}
 use Rattle.std.specs.Prelude.{slice_get, not, ◌&&◌, ◌==◌, if◌then◌else◌}
 use Rattle.std.specs.List.{cons_option, filter_map}
@@ -37,7 +37,7 @@ few_walked list = few_from list.checks list.next list.prev 131072 [] list.head l
 pub all_taken : (image : Image) (nodes : List ℕ) → nodes ≡ completed_walk image → take 131072 nodes ≡ completed_walk image
 all_taken image nodes is = take_all 131072 nodes (subst (λ (ns : List ℕ). length ns ≤ 131072) (sym is) (few_walked (completed_list (list_of image)))) ∙ is
 
--- One more in turn.
+-- One node more.
 
 some_same : {A : Type 0} {a b : A} → Some a ≡ Some b → a ≡ b
 some_same e = cc
@@ -66,7 +66,7 @@ few_of_prefix h xs ys rest are =
     let few : length (filter_map h xs) ≤ length xs = few_mapped h xs in
     omega (arith, long, few)
 
--- What can be sealed.
+-- What can get its checksum.
 
 pub node_sealable : (files : BlockFiles) (w : ℕ) → is_node_among files w ≡ true → CanBeSealed files w
 unfolding names_among

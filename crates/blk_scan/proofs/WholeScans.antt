@@ -1,4 +1,4 @@
--- A scan tells what an image holds, by its parts.
+-- A scan reports what an image holds, by its parts.
 use Rattle.std.proofs.Common.{◌≡◌, ℕ, List, [], ◌∷◌, ◌++◌, Option, None, Result, map, take, length, replicate, refl, sym, ap, ap₂, subst, ◌∙◌}
 use Rattle.std.specs.List.{AllZip, filter_map, flat_map, sum_by}
 use Rattle.std.proofs.lemmas.List.{map-append}

@@ -27,7 +27,7 @@ pub record IsOrderOf (image : Image) (ordered : Ordered) : Type 0 where
   pub records : AreShown image (kept image) ordered.records.items
   pub dropped : map dropped_by_told ordered.dropped.items ≡ dropped_among (store_of image) held_rule (completed_walk image)
 
--- the parts from which a scan is made are those of the image: its lists, the verdicts in both orders, the claims of the kept entries, and the unlisted records
+-- the parts from which a scan is made are those of the image: its lists, the verdicts in both orders, what the kept entries own, and the unlisted records
 pub record IsToldBy (image : Image) (lists : Lists) (judged : Judged) (ordered : Ordered) (unlisted : List ℕ) : Type 0 where
   pub lists_are : AreListsOf image lists
   pub judged_are : AreJudged image judged

@@ -56,7 +56,7 @@ IsOutcomeIf image kept None given = ⊥
 IsOutcomeIf image kept (Some verdict) None = ⊥
 IsOutcomeIf image kept (Some verdict) (Some given) = IsOutcomeOf image kept verdict given
 
--- What is told from outcomes.
+-- What a scan reports by the outcomes.
 
 -- the kept entry of an outcome, if it is one
 abbrev pub record_of_outcome : List Loaded → Option Outcome → Option Loaded
@@ -64,17 +64,17 @@ record_of_outcome kept None = None
 record_of_outcome kept (Some (outcome.Kept i)) = slice_get kept i
 record_of_outcome kept (Some (outcome.Dropped reason)) = None
 
--- what a scan tells of a kept entry
+-- what a scan reports of a kept entry
 abbrev pub kept_by_record : Loaded → Kept
 kept_by_record said = record { node = said.node; entry = said.entry; child = is_part_said said.role }
 
--- what a scan tells of a node that is dropped, or None for one that isn't
+-- what a scan reports of a node that is dropped, or None for one that isn't
 abbrev pub dropped_at : ℕ → Option Outcome → Option Dropped
 dropped_at node None = None
 dropped_at node (Some (outcome.Kept i)) = None
 dropped_at node (Some (outcome.Dropped reason)) = Some (record { place = node; reason = reason })
 
--- what a scan tells of those nodes that are dropped, by the outcome of each
+-- what a scan reports of those nodes that are dropped, by the outcome of each
 abbrev pub dropped_in : List ℕ → List (Option Outcome) → List Dropped
 dropped_in [] outcomes = []
 dropped_in (node ∷ nodes) [] = []

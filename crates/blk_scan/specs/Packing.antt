@@ -4,8 +4,8 @@ use Rattle.std.specs.List.{filter}
 use Rattle.blk_audit.specs.BucketEnds.{begin_of, records_of}
 use Rattle.blk_scan.specs.declared.chains.KeptChains.{KeptChains}
 
--- the records of the first n buckets that `keep` selects are packed into one list, with the end of each bucket; a bucket is told whole exactly where its chain
--- was closed and all its records are kept
+-- the records of the first n buckets that `keep` selects are packed into one list, with the end of each bucket; a bucket is reported whole exactly where its
+-- chain was closed and all its records are kept
 pub record ArePacked (keep : ℕ → Bool) (records ends : List ℕ) (closed : List Bool) (n : ℕ) (chains : KeptChains) : Type 0 where
   pub many : length chains.ends.items ≡ n
   pub told : length chains.whole.items ≡ n

@@ -1,4 +1,4 @@
--- What the scan of a folder tells.
+-- What the scan of a folder reports.
 use Rattle.std.specs.Prelude.{ℕ, ◌≡◌, ◌<◌, Bool, true, false, List, [], length, map, All, slice_index_or}
 use Rattle.std.specs.List.{flat_map, sum_by}
 use Rattle.std.specs.declared.option.Option.{Option}
@@ -28,21 +28,21 @@ use Rattle.blk_scan.specs.declared.scan.Dropped.{Dropped}
 use Rattle.blk_scan.specs.declared.scan.Kept.{Kept}
 use Rattle.blk_scan.specs.declared.scan.Scan.{Scan}
 
--- What it tells of an image.
+-- What a scan reports of an image.
 
--- what a scan tells of a kept node: its address, its record, and whether it is a part's
+-- what a scan reports of a kept node: its address, its record, and whether it is a part's
 abbrev pub kept_as_told : shown.Loaded → Kept
 kept_as_told loaded = record { node = loaded.node; entry = loaded.contents; child = is_part loaded }
 
--- what a scan tells of a dropped node or record, as the specs have it: its address and the reason
+-- what a scan reports of a dropped node or record, as the specs have it: its address and the reason
 abbrev pub dropped_by_told : Dropped → ℕ × reasons.Reason
 dropped_by_told told = (told.place, reason_of told.reason)
 
--- what a scan tells of a record that is in a chain but not listed
+-- what a scan reports of a record that is in a chain but not listed
 abbrev pub unlisted_as_told : ℕ → Dropped
 unlisted_as_told record_word = record { place = record_word; reason = Unlisted }
 
--- `records` has the kept records of all buckets, and the chain of a bucket that is told whole has exactly its kept records
+-- `records` has the kept records of all buckets, and the chain of a bucket that is reported whole has exactly its kept records
 pub record AreKeptChains (image : Image) (records ends : List ℕ) (whole : List Bool) : Type 0 where
   pub are_ends : AreEnds records ends
   pub told : length whole ≡ table_length
@@ -53,7 +53,7 @@ pub record AreKeptChains (image : Image) (records ends : List ℕ) (whole : List
 abbrev pub AreChainsWhole : Image → Type 0
 AreChainsWhole image = (bucket : ℕ) → bucket < table_length → IsChain (store_of image) bucket (kept_records image bucket)
 
--- what a scan tells of the chains: None where each has exactly its kept records; else the kept records, and which buckets are whole
+-- what a scan reports of the chains: None where each has exactly its kept records; else the kept records, and which buckets are whole
 abbrev pub AreChainsTold : Image → Option KeptChains → Type 0
 AreChainsTold image None = AreChainsWhole image
 AreChainsTold image (Some chains) = AreKeptChains image chains.records.items chains.ends.items chains.whole.items
@@ -63,7 +63,7 @@ pub record AreBare (image : Image) (words : List ℕ) : Type 0 where
   pub are_kept : All (IsOfKept image) words
   pub others : AreOthersSealed image words image
 
--- the scan tells what an image holds: the walk, what is kept and dropped, the claims and the cost of what is kept, the chains, and the absent checksums
+-- the scan reports what an image holds: the walk, what is kept and dropped, what that owns and costs, the chains, and the absent checksums
 pub record IsScanOf (image : Image) (scan : Scan) : Type 0 where
   pub walked : scan.walked.items ≡ completed_walk image
   pub kept_told : scan.kept.items ≡ map kept_as_told (kept image)
@@ -74,43 +74,44 @@ pub record IsScanOf (image : Image) (scan : Scan) : Type 0 where
   pub chains : AreChainsTold image scan.chains
   pub bare : AreBare image scan.bare.items
 
--- A scan tells no more to be repaired than has to be.
+-- A scan reports no more to be repaired than has to be.
 
 -- the chain of a bucket has to be repaired, since it hasn't exactly its kept records
 pub record IsChainToMend (image : Image) (bucket : ℕ) : Type 0 where
   pub below : bucket < table_length
   pub isnt : IsChain (store_of image) bucket (kept_records image bucket) → ⊥
 
--- some chain has to be repaired, and each bucket that needn't be is told whole
+-- some chain has to be repaired, and each bucket that needn't be is reported whole
 pub record AreChainsToMend (image : Image) (whole : List Bool) : Type 0 where
   pub one : ℕ
   pub is_one : IsChainToMend image one
   pub are_whole : (bucket : ℕ) → bucket < table_length → IsChain (store_of image) bucket (kept_records image bucket) → slice_index_or whole bucket false ≡ true
 
--- a scan tells no chains exactly where none has to be repaired
+-- a scan reports no chains exactly where none has to be repaired
 abbrev pub AreChainsExact : Image → Option KeptChains → Type 0
 AreChainsExact image None = AreChainsWhole image
 AreChainsExact image (Some chains) = AreChainsToMend image chains.whole.items
 
--- the scan tells as whole each bucket that needn't be repaired, and as bare exactly the nodes and records of kept entries whose checksum is absent
+-- the scan reports as whole each bucket that needn't be repaired, and as without a checksum exactly the nodes and records of kept entries whose checksum is
+-- absent
 pub record IsExactScan (image : Image) (scan : Scan) : Type 0 where
   pub chains : AreChainsExact image scan.chains
   pub bare : scan.bare.items ≡ bare_of_kept image
 
--- What a scan tells of any folder.
+-- What a scan reports of any folder.
 
--- by the table the told records of the chains are valid, and they are cut into all buckets
+-- by the table the reported records of the chains are valid, and they are cut into all buckets
 pub record ChainsStandAmong (files : BlockFiles) (chains : KeptChains) : Type 0 where
   pub records : All (λ w. is_record_among files w ≡ true) chains.records.items
   pub ends : AreEnds chains.records.items chains.ends.items
   pub told : length chains.whole.items ≡ table_length
 
--- by the table the told chains, if there are some, are of valid records
+-- by the table the reported chains, if there are some, are of valid records
 abbrev pub ChainsStandIf : BlockFiles → Option KeptChains → Type 0
 ChainsStandIf files None = Unit {0}
 ChainsStandIf files (Some chains) = ChainsStandAmong files chains
 
--- by the table the nodes and records that the scan tells are valid
+-- by the table the nodes and records that the scan reports are valid
 pub record StandAmong (files : BlockFiles) (scan : Scan) : Type 0 where
   pub walked : All (λ w. is_node_among files w ≡ true) scan.walked.items
   pub chains : ChainsStandIf files scan.chains
@@ -118,7 +119,7 @@ pub record StandAmong (files : BlockFiles) (scan : Scan) : Type 0 where
 
 -- A folder that was just made.
 
--- the scan tells nothing
+-- the scan reports nothing
 pub record IsEmptyScan (scan : Scan) : Type 0 where
   pub walked : scan.walked.items ≡ []
   pub kept_told : scan.kept.items ≡ []

@@ -27,7 +27,7 @@ use blk_verdict::Loaded;
 use std::alloc::Global;
 use std::collections::BTreeSet;
 
-// The nodes and the records of some kept ones that have 0 as their seal.
+// The nodes and the records of some kept ones whose checksum is absent (0).
 //
 // One folder call reads each of the records that was not read with the lists.
 pub(crate) fn bare_of<F: Folder>(

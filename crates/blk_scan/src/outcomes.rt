@@ -11,9 +11,9 @@ use std::alloc::Global;
 // The outcome of a walked node: kept or dropped.
 #[derive(Clone, Copy)]
 pub(crate) enum Outcome {
-    // It is kept: this one of the kept records, counted from 0 in the order in which they were tried.
+    // The node is kept: its record is this one of the kept records, counted from 0 in the order in which they were tried.
     Kept(usize),
-    // It is dropped.
+    // The node is dropped, for this reason.
     Dropped(Reason),
 }
 

@@ -1,4 +1,4 @@
-// What the audit of a folder tells.
+// What the audit of a folder reports.
 ghost use Rattle.std.specs.Prelude.{◌≡◌, length, slice_get};
 ghost use Rattle.std.specs.Option.{option_copied};
 
@@ -27,8 +27,7 @@ pub struct Dropped {
     pub reason: Reason,
 }
 
-/// What the audit of a folder tells: its walked nodes, what is kept and dropped of them, what the kept ones own, and
-/// what recovery repairs.
+/// What the audit of a folder reports: its walked nodes, what is kept and dropped of them, what the kept ones own, and what recovery repairs.
 #[derive(Drop)]
 pub struct Scan {
     pub(crate) walked: Vec<Addr>,
@@ -124,8 +123,7 @@ impl Scan {
         &self.kept_nodes
     }
 
-    /// Where a seal is 0: first the nodes of what is kept that have no seal, then the records, both in the order of the
-    /// LRU list.
+    /// Where a checksum is absent (0): first the nodes of what is kept that have none, then the records, both in the order of the LRU list.
     pub fn bare(&self) -> &[Addr]
         ensures { result.now ≡ self.now.bare.items }
     {

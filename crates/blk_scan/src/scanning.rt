@@ -31,8 +31,7 @@ use blk_io::Folder;
 use blk_verdict::{Judged, charge_of_all, judge_nodes, unlisted};
 use std::alloc::Global;
 
-/// Tells what a folder holds, as it is once its operation in flight is completed. An uninitialized folder holds nothing. Nothing
-/// is written.
+/// Reports what a folder holds, as it is once its operation in flight is completed. An uninitialized folder holds nothing. Nothing is written.
 ///
 /// The index is looked at; where it is initialized the block files are loaded, and the folder is scanned by them. The folder
 /// calls are those of `look`, `BlockFiles::load` and `scan_files`.
@@ -61,7 +60,7 @@ pub fn scan_folder<F: Folder>(alloc: Global, folder: &mut F) -> Result<Scan, Sca
     }
 }
 
-// Tells what a folder holds whose index is initialized.
+// Reports what a folder holds whose index is initialized.
 fn scan_finished<F: Folder>(alloc: Global, folder: &mut F) -> Result<Scan, ScanFault>
     ensures scanned { IfOk result (λ scan. ForSome (F.told folder.old).files (λ image. IsScanOf image scan)) }
     ensures exact { IfOk result (λ scan. ForSome (F.told folder.old).files (λ image. IsExactScan image scan)) }
@@ -75,8 +74,7 @@ fn scan_finished<F: Folder>(alloc: Global, folder: &mut F) -> Result<Scan, ScanF
     scan_files(alloc, folder, &files)
 }
 
-/// Tells what a folder holds whose block files were loaded, as it is once its operation in flight is completed. Nothing
-/// is written.
+/// Reports what a folder holds whose block files were loaded, as it is once its operation in flight is completed. Nothing is written.
 ///
 /// The folder calls are those of `read_lists`, `judge_nodes` and `unlisted`. A failed check is a read that gave too few
 /// bytes; a folder whose files are those of `files` gives none. `Device` comes only where the folder failed in this
@@ -105,7 +103,7 @@ pub fn scan_files<F: Folder>(
     Ok(scan)
 }
 
-// What is told of a folder by its lists and by what came of its walked nodes.
+// What is reported of a folder by its lists and by what came of its walked nodes.
 fn tell(
     alloc: Global,
     lists: &Lists,

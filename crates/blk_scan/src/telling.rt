@@ -1,4 +1,4 @@
-// What is told of the nodes and the records that are kept and dropped.
+// What is reported of the nodes and the records that are kept and dropped.
 ghost use Rattle.std.specs.Prelude.{◌≡◌, ◌++◌, [], IfOk, OnOk, length, map};
 ghost use Rattle.std.specs.List.{cons_option};
 ghost use Rattle.blk_verdict.specs.Kept.{is_part_said};
@@ -12,7 +12,7 @@ use blk_addr::{Addr, NoMemory};
 use blk_verdict::{Loaded, Reason, Role};
 use std::alloc::Global;
 
-// What is told of some kept records, in their order.
+// What is reported of some kept records, in their order.
 pub(crate) fn kept_of(alloc: Global, records: &[Loaded]) -> Result<Vec<Kept>, NoMemory>
     ensures { IfOk result (λ kept. kept.items ≡ map kept_by_record records.now) }
 {
@@ -49,7 +49,7 @@ pub(crate) fn nodes_of(alloc: Global, records: &[Loaded]) -> Result<Vec<Addr>, N
     Ok(nodes)
 }
 
-// What is told of the dropped ones of some nodes, in their order, by the outcome of each.
+// What is reported of the dropped ones of some nodes, in their order, by the outcome of each.
 pub(crate) fn dropped_of(
     alloc: Global,
     nodes: &[Addr],
@@ -65,7 +65,7 @@ pub(crate) fn dropped_of(
     Ok(dropped)
 }
 
-// What is told of a node by its outcome, if it is dropped.
+// What is reported of a node by its outcome, if it is dropped.
 fn dropped_at(node: Addr, outcome: Option<Outcome>) -> Option<Dropped>
     ensures { result ≡ shown.dropped_at node outcome }
 {
@@ -79,7 +79,7 @@ fn dropped_at(node: Addr, outcome: Option<Outcome>) -> Option<Dropped>
     }
 }
 
-// Adds what is told of a node, if it is dropped.
+// Adds what is reported of a node, if it is dropped.
 fn add(dropped: &mut Vec<Dropped>, one: Option<Dropped>) -> Result<(), NoMemory>
     ensures { OnOk result (dropped.new.items ≡ dropped.old.items ++ cons_option one []) }
 {
@@ -89,7 +89,7 @@ fn add(dropped: &mut Vec<Dropped>, one: Option<Dropped>) -> Result<(), NoMemory>
     Ok(())
 }
 
-// Adds what is told of unlisted records.
+// Adds what is reported of unlisted records.
 pub(crate) fn add_unlisted(dropped: &mut Vec<Dropped>, records: &[Addr]) -> Result<(), NoMemory>
     ensures { OnOk result (dropped.new.items ≡ dropped.old.items ++ map unlisted_as_told records.now) }
 {

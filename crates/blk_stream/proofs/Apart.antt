@@ -87,7 +87,7 @@ new_number files w from made some kind placed = by_site placed.site placed.at pl
     by_site (InGrowth n) at right = absurd (at.0 kind)
     by_site (InAddition n) at right = absurd (at.0 kind)
 
--- it shares no block with an address that is allocated
+-- a new place shares no block with an address that is allocated
 pub new_blocks_apart : (files : BlockFiles) (u w : ℕ) (from made : Image) → Agrees files from → stands_among files u ≡ true → kind_of u ≢ external → kind_of w ≢ external → CanBeFreed from u → IsNewPlace files w from made → ShareNoBlock u w
 new_blocks_apart files u w from made agrees stands blocky_u blocky_w can placed =
     none_shared u w
@@ -96,7 +96,7 @@ new_blocks_apart files u w from made agrees stands blocky_u blocky_w can placed 
     clash : true ≡ false → ⊥
     clash e = cc
 
--- and no data with one whose blocks are allocated or whose file is there
+-- a new place shares no data with an address whose blocks are allocated or whose file is there
 pub new_apart : (files : BlockFiles) (u w : ℕ) (from made : Image) → Agrees files from → w ≢ 0 → (kind_of u ≢ external → stands_among files u ≡ true) → MayBeFreed u from → (kind_of u ≡ external → has_file from (External (external_number u)) ≡ true) → IsNewPlace files w from made → ShareNoData u w
 new_apart files u w from made agrees some stands may there placed = record {
   files = λ kind_u kind_w same. clash (sym (there kind_u) ∙ ap (λ (n : ℕ). has_file from (External n)) same ∙ new_number files w from made some kind_w placed);

@@ -29,7 +29,7 @@ use Rattle.blk_stream.proofs.Naming.{apart_place}
 use Rattle.blk_stream.proofs.InsideSteps.{apart_file}
 use Rattle.blk_stream.proofs.InsideData.{data_beside, data_there}
 
--- files are told
+-- the folder is observable
 pub record HasFiles (a : Told) : Type 0 where
   pub image : Image
   pub is : a.files ≡ Some image

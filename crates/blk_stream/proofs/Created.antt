@@ -48,7 +48,7 @@ module _ (files : BlockFiles) (kind : ℕ) (from : Image) (is : kind ≡ externa
   abbrev bare : Image
   bare = applied (SetLength (External number) 0) from
 
-  -- and the index has its number
+  -- the file is there without bytes, and the index has its number
   abbrev done : Image
   done = applied (Word Index 16 (word_bytes number)) bare
 

@@ -44,7 +44,7 @@ fourth_of image entry streams e = by_stands (stands_as image blocks_256 entry) e
     by_stands true h = fourth_none image (fields_of (entry_at image entry)) streams h
     by_stands false h = absurd (none_some h)
 
--- its words lie apart from those of another
+-- the words of a stream lie apart from those of another
 pub fourth_off : (entry i at k : ℕ) → i < 3 → (at ≡ 52) ⊎ (at ≡ 68) → place entry + at ≤ k → k < place entry + at + 4 → (stream_words entry i).bytes (Block (file_selector entry)) k ≡ false
 fourth_off entry i at k few is first last =
     let a = word_off (size_place i) (⊎_elim (λ (e : at ≡ 52). inr (omega (arith, e, few, first))) (λ (e : at ≡ 68). inr (omega (arith, e, few, first))) is) in

@@ -28,7 +28,7 @@ use Rattle.blk_stream.proofs.InsideSteps.{apart_file, data_within, quiet_data, q
 use Rattle.blk_stream.proofs.Joined.{then_passes, told_then}
 use Rattle.blk_stream.proofs.Naming.{apart_place}
 
--- where no files are told after steps, none were told before
+-- a folder that is opaque after steps was opaque before them
 pub none_before : {a b : Told} {s : List TrailStep} → Applies a b s → b.files ≡ None → a.files ≡ None
 none_before {a} {b} {s} steps none = by_files a.files refl
   where

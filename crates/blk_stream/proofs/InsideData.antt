@@ -163,7 +163,7 @@ made_external from w old size offset kind long =
           there = let h = out.1 in let n : length_of (applied (SetLength (External (external_number w)) size) from) (data_file w) ≡ size = subst (λ (f : File). length_of (applied (SetLength f size) from) (data_file w) ≡ size) out.0 (length-after_set_len from (data_file w) size) in omega (arith, h, n);
         }
 
--- and an external file has its length
+-- an external file has its length
 pub made_long : (from : Image) (w old size offset : ℕ) → kind_of w ≡ external → length_of from (data_file w) ≡ old → length_of (after (room_steps w old size offset) from) (data_file w) ≡ size
 made_long from w old size offset kind long =
     subst (λ (s : List TrailStep). length_of (after s from) (data_file w) ≡ size) (sym (room_external w old size offset (let t : (kind_of w == external) ≡ true = grind (arith, nat_tests) in t))) (by_test (size == old) refl)

@@ -1,4 +1,4 @@
--- A stream is written inside its place: the same files are there at each word, and the record is shown to check.
+-- A stream is written inside its place: the same files are there at each word, and the view has the record with a checksum that matches or is absent.
 use Rattle.std.proofs.Common.{◌≡◌, ◌≢◌, ⊎_elim, ℕ, ◌+◌, ◌-◌, ◌<◌, ◌≤◌, Bool, true, false, if◌then◌else◌, List, [], ◌∷◌, length, refl, sym, ◌∙◌, ap, subst, arith}
 use Rattle.std.specs.Prelude.{◌==◌, is_some}
 use Rattle.std.proofs.lemmas.Bool.{cases_eq, eqb-true}
@@ -104,7 +104,7 @@ module _ (from : Image) (entry i w old size offset : ℕ) (bytes record_bytes : 
       until-append S S (here_steps w old size offset bytes) (size_steps record_bytes entry i old size) from here_files
       (size_files (after (here_steps w old size offset bytes) from) (until_last S S (here_steps w old size offset bytes) from here_files))
 
--- The record is shown to check at each word.
+-- At each word the view has the record with a checksum that matches or is absent.
 
 module _ (files : BlockFiles) (entry i w old size offset : ℕ) (bytes : List ℕ) (kind : kind_of entry ≡ blocks_256) (stands : stands_among files entry ≡ true) (small : i < 3)
     (inside : IsInside files w 0 size) (few : offset + length bytes ≤ size) (apart : kind_of w ≢ external → ShareNoBlock entry w) (from : Image) (agrees : Agrees files from) (are_bytes : AreBytes from) (good : RecordChecks entry from) where

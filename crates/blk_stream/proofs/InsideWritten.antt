@@ -137,7 +137,7 @@ module _ (files : BlockFiles) (entry i w old size offset : ℕ) (bytes : List �
           ∙ sym (word_of_record (after steps mid) entry (size_place i) (let n : record_size entry ≡ 96 = entry_bytes entry kind in omega (arith, n, small)))
           ∙ updated_is_new mid (after steps mid) entry ((size_place i, size) ∷ []) (size_changes entry i (size_place i) size kind small refl) done 0 (size_place i, size) (omega arith) (All-cons (λ c. c.1 < 2 ^ 32) (size_place i, size) [] fit (All-nil (λ c. c.1 < 2 ^ 32)))
 
-  -- the record is sealed then, if it was
+  -- the record has its checksum then, if it had one
   pub inside_sealed : AreBytes from → AreBytes (after (inside_steps record_bytes entry i w old size offset bytes) from) → KeepsSeal entry from (after (inside_steps record_bytes entry i w old size offset bytes) from)
   inside_sealed bytes_from are_bytes = by_test (size == old) refl
     where

@@ -6,11 +6,11 @@ use Rattle.spec_image.specs.Steps.{after}
 use Rattle.spec_image.specs.Told.{Told, Passes}
 use Rattle.spec_image.proofs.Runs.{passes_end, passes_then, some_inj}
 
--- what holds of the files that are told
+-- what holds of the observed files
 pub told_is : {files : Option Image} (P : Image → Type 0) (from : Image) → files ≡ Some from → P from → ForSome files P
 told_is {files} P from there holds image here = subst P (some_inj (sym there ∙ here)) holds
 
--- the image that is told, and what holds of it
+-- the observed image, and what holds of it
 pub record IsTold (m : Told) (P : Image → Type 0) : Type 0 where
   pub image : Image
   pub is : m.files ≡ Some image

@@ -33,12 +33,12 @@ use Rattle.blk_stream.proofs.StreamMoved.{long_there}
 pub still_whole : (from : Image) → StaysWhole from from
 still_whole from = record { grown = grown_not from; headers = headers-kept from }
 
--- at each word of a free it does
+-- at each word of a free files have grown at most and the headers are kept
 pub frees_whole : (w : ℕ) (from image : Image) → FreesOrStops w from image → StaysWhole from image
 frees_whole w from image (inl before) = before.stays
 frees_whole w from image (inr last) = last.stays
 
--- and at each of an allocation
+-- at each word of an allocation files have grown at most and the headers are kept
 allocates_whole : (files : BlockFiles) (kind count : ℕ) (from image : Image) → AllocatesOrStops files kind count from image → StaysWhole from image
 allocates_whole files kind count from image (inl before) = before.stays
 allocates_whole files kind count from image (inr last) = last.stays

@@ -193,7 +193,7 @@ module _ (files new : BlockFiles) (size : ℕ) (a b : Told) (some : 0 < size) (b
   abbrev Stops : ℕ → ℕ → Type 0
   Stops K N = ForSome a.files (λ from. AreCounted files K from → PassesTo a b (AllocatesInProgress files K N from) (AllocatesOrStops files K N from))
 
-  -- and what it says in the end
+  -- what an allocation says in the end
   abbrev Ends : ℕ → ℕ → ℕ → Type 0
   Ends K N w =
       ForSome a.files (λ from. IsChosen files from K N w)

@@ -154,7 +154,7 @@ named_free entry i old from files mid agrees same there may blocky = freed_still
 
 -- Observable and opaque.
 
--- where no files are told after some steps, none were told before them
+-- a folder that is opaque after some steps was opaque before them
 pub told_back : (a b : Told) (P : Image → Image → Type 0) → ForSome a.files (λ from. Passes a b (P from)) → b.files ≡ None → a.files ≡ None
 told_back a b P passes none = by_files a.files refl
   where

@@ -1,4 +1,5 @@
--- Records are sealed after an update, and still where their bytes are as before; and they are shown to check where they do in their bytes.
+-- Records have their checksums after an update, and still where their bytes are as before. Where a checksum matches or is absent in the bytes, it is so in the
+-- view.
 use Rattle.std.proofs.Common.{◌≡◌, ℕ, ◌+◌, ◌≤◌, List, take, true, sym, ◌∙◌, ap, subst, arith}
 use Rattle.std.specs.Prelude.{◌==◌}
 use Rattle.std.proofs.lemmas.Bool.{eq-eqb}
@@ -19,7 +20,7 @@ use Rattle.law_folder.proofs.updates.Prefixes.{AreSmall, entry_checks-by, entry_
 use Rattle.law_folder.proofs.updates.Updates.{entry-here}
 use Rattle.blk_stream.specs.Stages.{KeepsSeal}
 
--- an entry record is sealed where it is so in its bytes
+-- an entry record has its checksum where that is so in its bytes
 sealed_bytes : (image : Image) (w : ℕ) → AreBytes image → kind_of w ≡ blocks_256 → entry_is_sealed (entry_at image w) ≡ is_sealed 92 (record_at image w)
 unfolding entry_is_sealed entry_body entry_in record_at
 sealed_bytes image w bytes kind =
@@ -30,13 +31,13 @@ sealed_bytes image w bytes kind =
     ap (λ (body : List ℕ). word_at f (place w + 92) == hash body) (entry_body-in (place w) f (bytes (Block (file_selector w))) ∙ sym front)
     ∙ ap (λ (x : ℕ). x == hash (take 92 (record_at image w))) (sym (record_word image w 92 size))
 
--- an update leaves its record sealed
+-- an update leaves its record with its checksum
 pub updated_sealed : (from image : Image) (w : ℕ) (changes : List (ℕ × ℕ)) → AreBytes image → kind_of w ≡ blocks_256 → AreChanges (seal_place w) changes → IsUpdated from w changes image → entry_is_sealed (entry_at image w) ≡ true
 updated_sealed from image w changes bytes kind are done =
     let seal : word_at (content (record_at image w)) 92 ≡ seal_of 92 (record_at image w) = subst (λ (s : ℕ). word_at (content (record_at image w)) s ≡ seal_of s (record_at image w)) (entry_seal w kind) (updated_seal from image w changes are done) in
     sealed_bytes image w bytes kind ∙ eq-eqb _ _ seal
 
--- a record with the bytes that it had is sealed if it was
+-- a record with the bytes that it had has its checksum if it had it
 pub still_sealed : (from image : Image) (entry : ℕ) → AreBytes from → AreBytes image → kind_of entry ≡ blocks_256 → record_at image entry ≡ record_at from entry → KeepsSeal entry from image
 still_sealed from image entry bytes_from bytes kind same was = sealed_bytes image entry bytes kind ∙ ap (is_sealed 92) same ∙ sym (sealed_bytes from entry bytes_from kind) ∙ was
 
@@ -45,7 +46,7 @@ pub small_record : (image : Image) (w : ℕ) → AreBytes image → AreSmall (re
 unfolding record_at
 small_record image w bytes = small-range (record_size w) (place w) (byte image (Block (file_selector w))) (bytes (Block (file_selector w)))
 
--- a record that checks in its bytes is shown to check, where they are small
+-- where the bytes of a record are small, a checksum that matches or is absent in them does so in the view
 pub shown_small : (image : Image) (w : ℕ) → kind_of w ≡ blocks_256 → AreSmall (take (seal_place w) (record_at image w)) → RecordChecks w image → entry_checks (entry_at image w) ≡ true
 unfolding entry_in
 shown_small image w kind small good =

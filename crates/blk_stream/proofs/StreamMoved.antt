@@ -417,7 +417,7 @@ module _ (files kept : BlockFiles) (entry i size : ℕ) (old : Stored) (kind : k
             frees = inl ((words from there).word_is ∙ ap (λ (o : Option ℕ). unwrap_or o 0) none, refl);
           })
 
-  -- The record is sealed then.
+  -- The record has its checksum then.
   pub moved_sealed : ForSome m.files (λ B. record_bytes ≡ record_at B entry → RecordChecks entry B → ForSome b.files (λ image. entry_is_sealed (entry_at image entry) ≡ true)) → ForSome a.files (λ from. CanBeWritten files entry i size from → ForSome b.files (λ image. entry_is_sealed (entry_at image entry) ≡ true))
   moved_sealed sealed from there can image now =
       let mid = mid_here from there can in

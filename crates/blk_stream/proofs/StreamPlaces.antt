@@ -296,7 +296,7 @@ pub bytes_at : (image : Image) (entry i size w : ℕ) → size ≡ size_word ima
 unfolding stream_bytes
 bytes_at image entry i size w is word = λ j. data_at image (sym word j) 0 (sym is j)
 
--- an answer that is right wherever files are told is corruption only where none are
+-- where an answer is Ok for each observable folder, only an opaque folder gives corruption
 pub damaged_never : {A : Type 0} (r : Result A Fault) (files : Option Image) → ((image : Image) → files ≡ Some image → IsOk r) → IfDamaged r (λ _. files ≡ None)
 damaged_never (Ok a) files right = tt
 damaged_never (Err Device) files right = tt
@@ -322,7 +322,7 @@ keeps_inside files size w at n keeps within =
     by_size zero is storage blocky = absurd (blocky (let e : w ≡ 0 = none_storage w storage in ap kind_of e))
     by_size (suc m) is storage blocky = let h = storage_room (suc m) w (omega arith) storage blocky in omega (arith, h, within, is)
 
--- so its blocks are valid
+-- the blocks of data that is stored are valid
 pub keeps_stands : (files : BlockFiles) (size w addr : ℕ) → may_keep files size w ≡ true → addr ≡ w → kind_of addr ≢ external → stands_among files addr ≡ true
 keeps_stands files size w addr keeps is = (keeps_inside files size addr 0 0 (subst (λ (v : ℕ). may_keep files size v ≡ true) (sym is) keeps) (omega arith)).stands
 

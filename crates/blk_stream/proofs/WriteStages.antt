@@ -298,7 +298,7 @@ words_off kept entry i w size kind stands small inside apart k less =
     two_none : ◌≡◌ {A = ℕ} 2 0 → ⊥
     two_none e = cc
 
--- so the record checks while it is filled
+-- so the record's checksum matches or is absent while the new place is filled
 pub filling_checks : (files kept : BlockFiles) (entry w size : ℕ) (from made image : Image) → kind_of entry ≡ blocks_256 → stands_among files entry ≡ true → stands_among kept entry ≡ true → Agrees files from → RecordChecks entry from → IsNewPlace files w from made
     → w ≢ 0 → IsInside kept w 0 size → (kind_of w ≢ external → ShareNoBlock entry w) → SameOutside (data_at_place w) made image → RecordChecks entry image
 unfolding data_at_place

@@ -11,7 +11,7 @@ use Rattle.blk_disk.specs.Tables.{Agrees, stands_among}
 use Rattle.blk_stream.specs.Streams.{HasStreams, address_word, streams_at}
 use Rattle.blk_stream.specs.Dropping.{AreDropped, dropping_of}
 
--- a claim is of the blocks of the record at address `entry`, or of the blocks or files of its streams
+-- a block or a file is one of the blocks of the record at address `entry`, or of the blocks or files of its streams
 abbrev pub is_of_entry : Image → ℕ → Claim → Bool
 is_of_entry image entry = has_claim (claims_of_all (entry ∷ address_word image entry 0 ∷ address_word image entry 1 ∷ address_word image entry 2 ∷ []))
 

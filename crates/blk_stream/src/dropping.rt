@@ -16,12 +16,12 @@ use blk_disk::BlockFiles;
 use blk_io::{Fault, Folder};
 use blk_record::{EntryView, Record};
 
-/// Makes the three streams of an entry empty, one after the other. Of each that has bytes, the record gets the size
-/// and the address 0 by one sealed update, and then its blocks are freed, or its file is deleted.
+/// Makes the three streams of an entry empty, one after the other. Of each that has bytes, the record gets the size and the address 0 by one update under a
+/// checksum 0, and then its blocks are freed, or its file is deleted.
 ///
-/// One folder call reads the record; for each stream in blocks eleven follow, and for each in a file five. A failed
-/// check is a read of the record that gave too few bytes, or a record that doesn't check, and nothing is written then;
-/// or the words of a stream that don't give it its storage, or a header that blocks can't be freed of.
+/// One folder call reads the record; for each stream in blocks eleven follow, and for each in a file five. A failed check is a read of the record that gave too
+/// few bytes, or a wrong checksum of the record, and nothing is written then; or the words of a stream that don't give it its storage, or a header that blocks
+/// can't be freed of.
 pub fn drop_streams<F: Folder>(f: &mut F, files: &BlockFiles, entry: Addr) -> Result<(), Fault>
     requires kind { kind_of entry ≡ blocks_256 }
     requires stands { IsTrue (stands_among files.now entry) }
@@ -32,11 +32,11 @@ pub fn drop_streams<F: Folder>(f: &mut F, files: &BlockFiles, entry: Addr) -> Re
     ensures dropped { OnOk result (ForSome (F.told f.old).files (λ from. ForSome (F.told f.new).files (AreDropped 3 entry from))) }
     ensures agrees { ForSome (F.told f.new).files (Agrees files.now) }
 
-    // At each word the record checks, and nothing but the words of the streams and their places has changed; until the record names a stream no longer, its
-    // place is as it was; and a well-formed folder is well formed.
+    // At each word the record's checksum matches or is absent, and nothing but the words of the streams and their places has changed; until the record names a
+    // stream no longer, its place is as it was; and a well-formed folder is well formed.
     ensures stops { ForSome (F.told f.old).files (λ from. RecordChecks entry from → Passes (F.told f.old) (F.told f.new) (DropsInProgress entry from)) }
 
-    // An observable folder reports corruption only where the record doesn't check, or a stream isn't stored and allocated alone.
+    // An observable folder reports corruption only where the record has a wrong checksum, or a stream isn't stored and allocated alone.
     ensures damaged { IfDamaged result (IsDropDamage files.now (F.told f.old) (F.told f.new) entry) }
     ensures untold { ForSome (F.told f.old).files (StreamsCanBeDropped entry) → IfDamaged result (λ _. (F.told f.old).files ≡ None) }
     ensures writes { MayWrite F.told F.faults f.old f.new (IfDevice result) }

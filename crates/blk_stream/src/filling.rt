@@ -47,8 +47,7 @@ pub(crate) fn fill<F: Folder>(
     Ok(())
 }
 
-// Where the space of a new place begins that is to be made: at the old end in blocks, and at the front of an external file, which has no
-// bytes.
+// Where the space begins that is to be made for a new place: at the old end in blocks, and at the start of an external file, which has no bytes.
 fn room_start(addr: Addr, old: u32) -> u32
     ensures { result ≡ (if kind_of addr == external then 0 else old) }
 {

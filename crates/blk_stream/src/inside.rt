@@ -81,7 +81,7 @@ fn write_here<F: Folder>(
     erase_end(folder, files, addr, old, size)
 }
 
-// Writes zeros into the rest of its blocks where data is cut, in a folder that erases. Nothing is done where the files are told.
+// Writes zeros into the rest of its blocks where data is cut, in a folder that erases. Nothing is done in an observable folder.
 fn erase_end<F: Folder>(
     folder: &mut F,
     files: &BlockFiles,

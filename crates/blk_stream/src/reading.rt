@@ -15,12 +15,11 @@ use blk_disk::BlockFiles;
 use blk_entry::{read_data, read_head};
 use blk_io::{Fault, Folder};
 
-/// Copies bytes of a stream into the front of `out`: those from an offset on, as many as there are and
-/// as fit. The number of them is given, which is 0 at or past the stream's end.
+/// Copies bytes of a stream into a prefix of `out`: those from an offset on, as many as there are and as fit. The number of them is given, which is 0 at or
+/// past the stream's end.
 ///
-/// One folder call reads the record, and one the bytes, where there are any to be read. A failed check is a read that
-/// gave too few bytes, a record that doesn't check, a size above 2147483647, or an address word that is not the storage
-/// of the size or isn't valid.
+/// One folder call reads the record, and one the bytes, where there are any to be read. A failed check is a read that gave too few bytes, a wrong checksum of
+/// the record, a size above 2147483647, or an address word that is not the storage of the size or isn't valid.
 pub fn read<F: Folder>(
     f: &mut F,
     files: &BlockFiles,
@@ -38,13 +37,13 @@ pub fn read<F: Folder>(
     ensures bytes { IfOk result (λ n. ForSome (F.told f.old).files (λ image. IsPiece (stream_bytes image entry stream) offset out.old out.new n)) }
     ensures piece { IfOk result (λ n. ForSome (F.told f.old).files (λ image. ForSome (streams_at image entry) (λ streams. IsPiece (stream_in stream streams) offset out.old out.new n))) }
 
-    // The record checks, its words give the stream its storage, and the piece is in the file.
+    // The record's checksum matches or is absent, its words give the stream its storage, and the piece is in the file.
     ensures checked { OnOk result (ForSome (F.told f.old).files (HasRecord entry)) }
     ensures placed { OnOk result (ForSome (F.told f.old).files (HasStreamPlace files.now entry stream)) }
     ensures there { IfOk result (λ n. ForSome (F.told f.old).files (λ image. HasData (address_word image entry stream) (min offset (size_word image entry stream)) n image)) }
     ensures reads { ReadsOnly F.told F.faults f.old f.new (IfDevice result) }
 
-    // An observable folder reports corruption only where the record doesn't check or has no three streams.
+    // An observable folder reports corruption only where the record has a wrong checksum or no three streams.
     ensures damaged { IfDamaged result (IsReadDamage files.now (F.told f.old) entry stream offset (length out.old)) }
     ensures untold { ForSome (F.told f.old).files (StreamsCanBeRead files.now entry) → IfDamaged result (λ _. (F.told f.old).files ≡ None) }
 {

@@ -28,16 +28,14 @@ use blk_record::{EntryView, Record};
 /// Writes bytes over a stream from an offset on, with zeros before them where it ends there; it ends with them where it
 /// is cut, and else keeps what comes after them.
 ///
-/// Where the storage of the new length is that of the old one, they are written in its place, and then the record gets
-/// the length. Else a new place is filled, then the record gets its address and the length by one sealed update, and
-/// then the old place is freed.
+/// Where the storage of the new length is that of the old one, they are written in its place, and then the record gets the length. Else a new place is filled,
+/// then the record gets its address and the length by one update under a checksum 0, and then the old place is freed.
 ///
 /// A folder that erases what goes out of use gets zeros too, where the stream gets shorter within its blocks: from the
 /// new end to the end of the blocks, before the record gets the length.
 ///
-/// A failed check is a read of the record that gave too few bytes, a record that doesn't check, or words of the stream
-/// that don't give it its storage, and nothing is written then; or a cause of `allocate`, `free` or `create`, or old
-/// bytes that are not in their file.
+/// A failed check is a read of the record that gave too few bytes, a wrong checksum of the record, or words of the stream that don't give it its storage, and
+/// nothing is written then; or a cause of `allocate`, `free` or `create`, or old bytes that are not in their file.
 pub fn write<F: Folder>(
     f: &mut F,
     files: &mut BlockFiles,
@@ -61,15 +59,15 @@ pub fn write<F: Folder>(
     // before.
     ensures written { OnOk result (ForSome (F.told f.old).files (λ from. CanBeWritten files.old entry stream (writes.size_after cut (size_word from entry stream) offset (length bytes.now)) from → ForSome (F.told f.new).files (StreamIsWritten files.old files.new entry stream offset cut bytes.now from))) }
 
-    // It was written where it lies; or a new place was taken and filled, then the record named it, and then the old one was freed.
+    // The stream was written where it lies; or a new place was taken and filled, then the record named it, and then the old one was freed.
     ensures staged { OnOk result (ForSome (F.told f.old).files (λ from. CanBeWritten files.old entry stream (writes.size_after cut (size_word from entry stream) offset (length bytes.now)) from → ForSome (F.told f.new).files (IsWrittenByStage files.old files.new entry stream (writes.size_after cut (size_word from entry stream) offset (length bytes.now)) offset bytes.now from))) }
 
     ensures sealed { OnOk result (ForSome (F.told f.old).files (λ from. CanBeWritten files.old entry stream (writes.size_after cut (size_word from entry stream) offset (length bytes.now)) from → ForSome (F.told f.new).files (KeepsSeal entry from))) }
     ensures keeps { KeepsStanding files.old files.new }
     ensures agrees { OnOk result (ForSome (F.told f.new).files (Agrees files.new)) }
 
-    // At each word the record checks, and nothing but its words of the stream and the two places has changed; the old place is as it was until the record names
-    // the new one, which then has the bytes.
+    // At each word the record's checksum matches or is absent, and nothing but its words of the stream and the two places has changed; the old place is as it
+    // was until the record names the new one, which then has the bytes.
     ensures stops { ForSome (F.told f.old).files (λ from. CanBeWritten files.old entry stream (writes.size_after cut (size_word from entry stream) offset (length bytes.now)) from → Passes (F.told f.old) (F.told f.new) (WritesStream files.old entry stream (writes.size_after cut (size_word from entry stream) offset (length bytes.now)) offset cut bytes.now from)) }
 
     // At each word one of these stages is on its way: what was done before it is done, and of what comes after it nothing is.

@@ -70,7 +70,7 @@ no_word w address none = clash (sym (ap (λ (t : Bool). if t then Some w else No
     clash : Some w ≡ None → ⊥
     clash h = cc
 
--- data of few bytes lies in blocks, and its front is inside them
+-- data of few bytes lies in blocks, and its first bytes are inside them
 abbrev kind_by : Bool → Bool → Bool → ℕ
 kind_by a b c = if a then 2 else if b then 3 else if c then 4 else 0
 

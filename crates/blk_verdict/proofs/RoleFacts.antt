@@ -1,4 +1,4 @@
--- What the flags and the index of a record make it, by the front of its index.
+-- What the flags and the index of a record make it, by the first bytes of its index.
 use Rattle.std.proofs.Common.{◌≡◌, zero, suc, ◌≤◌, ℕ, Bool, true, false, ◌&&◌, if◌then◌else◌, List, [], ◌∷◌, ◌++◌, length, take, drop, length-take, length-drop, length-append, Option, None, Some, refl, sym, ◌∙◌, ap, subst, arith}
 use Rattle.std.specs.Prelude.{◌==◌, nat_le, nat_lt, not, slice_index}
 use Rattle.std.specs.Int.{cast_unsigned, w64}

@@ -34,7 +34,7 @@ all_first P x xs all = all 0 x (omega arith)
 pub all_others : {A : Type 0} (P : A → Type 0) (x : A) (xs : List A) → All P (x ∷ xs) → All P xs
 all_others P x xs all = λ k d less. all (suc k) d (omega (arith, less))
 
--- one that is found in one list stands for one in the other
+-- one that is found in one list represents one in the other
 pub found_in : {A B : Type 0} (R : A → B → Type 0) (p : A → Bool) (xs : List A) (ys : List B) (i : ℕ) (y : B) → AllZip R xs ys → slice_get ys i ≡ Some y → ((x : A) → R x y → p x ≡ true) → list_any p xs ≡ true
 found_in R p [] [] i y are e holds = absurd (clash e)
   where

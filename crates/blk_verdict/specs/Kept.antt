@@ -66,7 +66,7 @@ addresses_of said = filter is_address (said.node ∷ said.entry ∷ said.long_ke
 abbrev pub addresses_of_all : List Loaded → List ℕ
 addresses_of_all said = flat_map addresses_of said
 
--- invariant of what is kept: its set of claims has what the kept entries own, and its index has their hashes
+-- invariant of what is kept: its set of used blocks and files has what the kept entries own, and its index has their hashes
 pub record IsIndexed (so_far : KeptSoFar) : Type 0 where
   pub claims : IsClaimsOf so_far.claims (addresses_of_all so_far.kept.items)
   pub by_hash : IsByHash so_far.by_hash (map (λ said. said.hash) so_far.kept.items)

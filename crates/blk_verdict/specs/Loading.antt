@@ -15,7 +15,7 @@ use Rattle.spec_folder.specs.Reasons.{Reason, ◌>>=◌, demand}
 use Rattle.spec_folder.specs.Reasons as reason
 use Rattle.spec_folder.specs.View.{StoreView, RecordFields}
 
--- the first reason to drop a node by the words of its record, those from Seal to KeyLength, or None
+-- the first reason to drop a node by the words of its record, those from `Seal` to `KeyLength`, or None
 unfoldable pub reason_by_words : ℕ → ℕ → ℕ → RecordFields → Option Reason
 reason_by_words node contents dirty fields =
     if not fields.checks then Some reason.Seal else

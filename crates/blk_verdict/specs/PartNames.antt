@@ -12,7 +12,7 @@ use Rattle.blk_verdict.specs.declared.loading.Loaded.{Loaded}
 use Rattle.blk_verdict.specs.declared.loading.Verdict.{Verdict}
 use Rattle.blk_verdict.specs.declared.loading.Verdict.TheVariants as verdict
 
--- the front of the bytes is the key that the image has for a record with these words, if it has one
+-- a prefix of the bytes is the key that the image has for a record with these words, if it has one
 abbrev pub IsKeyInPrefix : Image → ℕ → RecordWords → List ℕ → Type 0
 IsKeyInPrefix image entry words bytes = (key : List ℕ) → stored_key (store_of image) entry (fields_said words) ≡ Some key → take words.key_len bytes ≡ key
 
@@ -20,7 +20,7 @@ IsKeyInPrefix image entry words bytes = (key : List ℕ) → stored_key (store_o
 abbrev pub IsNameOf : Image → Loaded → List ℕ → Type 0
 IsNameOf image said bytes = is_part_said said.role ≡ true → (key : List ℕ) → IsKeyOf image said key → bytes ≡ key
 
--- if a node was loaded as a part, the front of the bytes is the key that the image has of it
+-- if a node was loaded as a part, a prefix of the bytes is the key that the image has of it
 abbrev pub IsNameInPrefix : Image → Verdict → List ℕ → Type 0
 IsNameInPrefix image (verdict.Loaded said) bytes = IsNameOf image said (take said.key_len bytes)
 IsNameInPrefix image (verdict.Dropped reason) bytes = Unit {0}

@@ -1,4 +1,4 @@
--- The two passes over the walked nodes: first those without the child flag, then the children.
+-- The two passes over the walked nodes: first those without the child flag, then the parts.
 use Rattle.std.specs.Prelude.{ℕ, ◌≡◌, List, [], ◌∷◌, Bool, true, false, not, slice_get}
 use Rattle.std.specs.List.{AllZip, filter}
 use Rattle.std.specs.declared.option.Option.{Option}
@@ -18,7 +18,7 @@ use Rattle.blk_verdict.specs.Kept.{AreShown, HaveKeys, IsSameAnswer}
 use Rattle.blk_verdict.specs.declared.loading.Loaded.{Loaded}
 use Rattle.blk_verdict.specs.declared.passes.Tried.{Tried}
 
--- a node is tried in a pass: the pass of the children tries nodes with the child flag, the other pass those without
+-- a node is tried in a pass: the pass of the parts tries nodes with the child flag, the other pass those without
 abbrev pub is_of_pass : Bool → Bool → Bool
 is_of_pass true child = child
 is_of_pass false child = not child
@@ -32,7 +32,7 @@ unfoldable pub kept_after : StoreView → Rule → List shown.Loaded → List �
 kept_after store rule kept [] = kept
 kept_after store rule kept (node ∷ nodes) = kept_after store rule (with_verdict kept (verdict store rule kept node)) nodes
 
--- `tried` tells the verdict on a node in memory: its place among the walked nodes, and the reason to drop it or none
+-- `tried` has the verdict on a node in memory: its place among the walked nodes, and the reason to drop it or none
 pub record IsTried (walked : List ℕ) (given : ℕ × Result shown.Loaded reasons.Reason) (tried : Tried) : Type 0 where
   pub node : slice_get walked tried.place ≡ Some given.0
   pub answer : IsSameAnswer given.1 tried.reason

@@ -20,8 +20,8 @@ use blk_audit::{Lists, ScanFault, WalkedNode};
 use blk_disk::BlockFiles;
 use blk_io::Folder;
 
-// Judges a walked node by the reasons from `Contents` to `Parent` in their order, and keeps its record at the end of those
-// that are kept where none of them holds. Of a part the key is read into the front of `name`.
+// Judges a walked node by the reasons from `Contents` to `Parent` in their order, and keeps its record at the end of those that are kept where none of them
+// holds. Of a part the key is read into a prefix of `name`.
 //
 // The folder calls are those of `load_walked` and, where it finds no reason, those of `KeptSoFar::admit`.
 pub(crate) fn judge_walked<F: Folder>(

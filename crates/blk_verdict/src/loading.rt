@@ -94,8 +94,7 @@ pub fn load<F: Folder>(
     load_words(folder, files, node, entry, &said, reached, &mut name)
 }
 
-// The verdict on a node that names a record that is there and was read before. Of a part the key is read into the front
-// of `name`.
+// The verdict on a node that names a record that is there and was read before. Of a part the key is read into a prefix of `name`.
 pub(crate) fn load_words<F: Folder>(
     folder: &mut F,
     files: &BlockFiles,
@@ -183,8 +182,7 @@ fn load_key<F: Folder>(
     load_streams(folder, files, node, entry, &said.words, name)
 }
 
-// The hash of the key of a record. Where it is not known to be right, or the key is the name of a part, one folder call reads the
-// key into the front of `name`.
+// The hash of the key of a record. Where it is not known to be right, or the key is the name of a part, one folder call reads the key into a prefix of `name`.
 fn key_sum<F: Folder>(
     folder: &mut F,
     files: &BlockFiles,
@@ -223,7 +221,7 @@ fn known_hash(said: &ReadRecord) -> Option<u32>
     Some(said.words.hash)
 }
 
-// Reads the key of a record into the front of `name`, by one folder call, for its hash.
+// Reads the key of a record into a prefix of `name`, by one folder call, for its hash.
 fn read_sum<F: Folder>(
     folder: &mut F,
     files: &BlockFiles,
@@ -247,8 +245,7 @@ fn read_sum<F: Folder>(
     Ok(super_fast_hash(key))
 }
 
-// The verdict on a node by the streams of its record. Of a part the key is in front of `name`; no other key is looked
-// at.
+// The verdict on a node by the streams of its record. Of a part the key is a prefix of `name`; no other key is looked at.
 fn load_streams<F: Folder>(
     folder: &mut F,
     files: &BlockFiles,

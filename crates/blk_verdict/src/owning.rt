@@ -31,7 +31,7 @@ impl Owned {
         }
     }
 
-    // Those of a record: of its node, of itself, of its long key and of its streams.
+    // The addresses that a record owns: of its node, of itself, of its long key and of its streams.
     pub(crate) fn of(loaded: &Loaded) -> Owned
         ensures { addresses_owned result ≡ addresses_of loaded.now }
     {
@@ -45,14 +45,14 @@ impl Owned {
         owned
     }
 
-    // They, in a row.
+    // The addresses, in a row.
     pub(crate) fn as_slice(&self) -> &[Addr]
         ensures { result.now ≡ addresses_owned self.now }
     {
         &self.addrs[..self.count]
     }
 
-    // Adds one.
+    // Adds an address.
     fn add(&mut self, addr: Addr)
         requires { self.old.count < most_owned }
         ensures added { addresses_owned self.new ≡ addresses_owned self.old ++ addr ∷ [] }

@@ -46,13 +46,12 @@ pub struct Judged {
     pub tried: Vec<Tried>,
 }
 
-/// Judges the walked nodes in two passes: first those whose record is not a child, then the children.
+/// Judges the walked nodes in two passes: first those whose record is not a part's, then those of parts.
 ///
-/// Of each node that is tried the record is asked for the flags of a child, which takes one folder call where it was not
-/// read with the lists; then come those of `load_walked`, and where it finds no reason, those that read the keys and the
-/// index bits by which a record is judged against the kept ones. A failed check is a read that gave too few bytes; a
-/// folder whose files are those of `files`, and of which the lists were read, gives none. `Device` comes only where the
-/// folder failed in this call, and `Memory` when out of memory.
+/// For each node that is tried it is asked whether its record has the flags of a part, which takes one folder call where it was not read with the lists; then
+/// come those of `load_walked`, and where it finds no reason, those that read the keys and the index bits by which a record is judged against the kept ones. A
+/// failed check is a read that gave too few bytes; a folder whose files are those of `files`, and of which the lists were read, gives none. `Device` comes only
+/// where the folder failed in this call, and `Memory` when out of memory.
 pub fn judge_nodes<F: Folder>(
     alloc: Global,
     folder: &mut F,
@@ -79,7 +78,7 @@ pub fn judge_nodes<F: Folder>(
     Ok(Judged { kept, tried })
 }
 
-// Tries the walked nodes of a pass in their order: the children, or the others.
+// Tries the walked nodes of a pass in their order: those of parts, or the others.
 //
 // The folder calls are those of `is_child` for each walked node, and those of `judge_walked` for each of the pass. Where
 // it does not succeed, what was tried and is kept is of no more use.

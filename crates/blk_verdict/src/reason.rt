@@ -7,13 +7,13 @@ ghost use Rattle.blk_verdict.specs.Reasons.{reason_number};
 pub enum Reason {
     /// The node names no record that is there.
     Contents = 1,
-    /// The record does not check.
+    /// The record has a wrong checksum.
     Seal = 2,
-    /// It is not in the state of a live entry.
+    /// The record is not in the state of a live entry.
     State = 3,
-    /// It names another node.
+    /// The record names another node.
     Back = 4,
-    /// Its flags are none that a record has.
+    /// The record's flags are none that a record has.
     Flags = 5,
     /// The node is dirty.
     Dirty = 6,
@@ -29,7 +29,7 @@ pub enum Reason {
     Streams = 11,
     /// A parent or a part has no index that is right for it, or a part no name.
     Sparse = 12,
-    /// One of its blocks or external files has an owner.
+    /// A kept entry owns one of the record's blocks or external files, or two of its record, long key and streams share one.
     Claimed = 13,
     /// A kept record has the same key.
     Name = 14,

@@ -141,7 +141,7 @@ fn part_with(map: &PartMap, name: ChildName, size: u32) -> Option<Role>
     }
 }
 
-// Reads the front of data in blocks, which is stored as its address word says, by one folder call.
+// Reads the first bytes of data in blocks, which is stored as its address word says, by one folder call.
 fn read_front<F: Folder>(
     folder: &mut F,
     files: &BlockFiles,

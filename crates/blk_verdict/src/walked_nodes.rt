@@ -26,11 +26,10 @@ use blk_record::CHILD;
 
 /// The verdict on a walked node by itself.
 ///
-/// One folder call reads the record, where it was not read with the lists. Only where the hash of the key is not known,
-/// or the record is that of a part, does one read the key, into the front of `name`: of a part it is there then. One
-/// more each asks for the length of a long key or a stream that is an external file, and one reads the index of a
-/// parent or a part. No other byte of the streams is read. A failed check is a read that gave too few bytes; a folder
-/// whose files are those of `files` gives none.
+/// One folder call reads the record, where it was not read with the lists. Only where the hash of the key is not known, or the record is that of a part, does
+/// one read the key, into a prefix of `name`: of a part it is there then. One more each asks for the length of a long key or a stream that is an external file,
+/// and one reads the index of a parent or a part. No other byte of the streams is read. A failed check is a read that gave too few bytes; a folder whose files
+/// are those of `files` gives none.
 pub fn load_walked<F: Folder>(
     folder: &mut F,
     files: &BlockFiles,
@@ -54,7 +53,7 @@ pub fn load_walked<F: Folder>(
     load_words(folder, files, node, entry, &said, reached, name)
 }
 
-/// Whether a walked node names a record that checks and is a part's; such nodes are judged after the others.
+/// Whether a walked node names a record that is a part's and whose checksum matches or is absent; such nodes are judged after the others.
 ///
 /// One folder call reads a record that was not read with the lists; no other call is made. A failed check is a read
 /// that gave too few bytes; a folder whose files are those of `files` gives none.
@@ -77,7 +76,7 @@ pub fn is_child<F: Folder>(
     Ok(is)
 }
 
-// Whether a record checks and is a part's.
+// Whether a record is a part's and its checksum matches or is absent.
 fn is_part(words: &RecordWords) -> bool
     ensures { result ≡ (words.now.checks && (words.now.flags == child)) }
 {

@@ -19,7 +19,7 @@ use blk_record::CHILD;
 // The state of a live entry.
 const LIVE: u32 = 0;
 
-// The first of the reasons from the seal to the length of the key that holds.
+// The first of the reasons from `Seal` to `KeyLength` that holds.
 #[tactic(auto, using(std::proofs::lemmas::Bool::Decides::nat_tests), unfolding(crate::specs::Loading::reason_by_words))]
 pub(crate) fn reason_by_words(
     node: Addr,

@@ -78,7 +78,7 @@ used_found file number held p e = record { named = found_page file number held p
 pub used_new : (file : File) (number : ℕ) (held : List Page) (p : Page) → is_held file number held ≡ false → is_page file number p ≡ true → IsPageUsed file number held p
 used_new file number held p missing is = record { named = is; same = λ one there. none_some (sym (not_found file number held missing) ∙ there) }
 
--- a new page in front of those that are left
+-- a new page before those that are left
 pub new_front : (file : File) (number places : ℕ) (held : List Page) (p : Page) → is_held file number held ≡ false → is_page file number p ≡ true → p ∷ dropped places held ≡ used places p held
 new_front file number places held p missing is =
     let name = named file number p is in

@@ -174,7 +174,7 @@ none_dropped file at bytes (page ∷ held) image inside all =
         by_size : length_of image page.file ≡ length_of image file → (nat_le 4096 (length page.bytes) || nat_le (at + length bytes) (4096 * page.number + length page.bytes)) ≡ true
         by_size same = grind (arith, nat_tests, size, inside)
 
--- what was told before a change that is told
+-- the image that was observed before a change after which one is observed
 pub before : (a b : Told) (steps : List TrailStep) (new : Image) → Applies a b steps → b.files ≡ Some new → (old : Image) × (a.files ≡ Some old) × (new ≡ after steps old)
 before a b steps new applies there = by_files a.files (sym applies.files ∙ there)
   where

@@ -7,7 +7,7 @@ use Rattle.spec_image.specs.Bytes.{range_at}
 use Rattle.spec_image.specs.Image.{File, Image, byte, length_of}
 use Rattle.spec_image.specs.Told.{GivesBytes}
 
--- so many bytes of the file, from a place on, are at the front of the buffer
+-- so many bytes of the file, from a place on, are at the start of the buffer
 pub record Given (image : Image) (file : File) (at given : ℕ) (now : List ℕ) : Type 0 where
   pub front : take given now ≡ range_at (byte image file) at given
   pub inside : (given ≡ 0) ⊎ (given ≤ length_of image file - at)

@@ -43,7 +43,7 @@ cut_off true of file number at kept bytes same there =
 not_less : (a b : ℕ) → nat_lt a b ≡ false → b ≤ a
 not_less a b e = grind (arith, nat_tests)
 
--- bytes that lie after a list, or in front of it, leave it as it is
+-- bytes that lie after a list, or before it, leave it as it is
 apart_from : (start count at : ℕ) (items bytes : List ℕ) → (nat_lt (at - start) count && nat_lt (start - at) (length bytes)) ≡ false → spliced (at - start) (drop (start - at) bytes) (take count items) ≡ take count items
 apart_from start count at items bytes apart = pick (nat_lt (at - start) count)
     (λ inside.

@@ -24,7 +24,7 @@ abbrev pub giving_way : ℕ → List (ℕ × Page) → ℕ
 giving_way last [] = last
 giving_way last (slot ∷ slots) = if is_some (seen slot.1) then giving_way slot.0 slots else slot.0
 
--- n bytes of the page from `from` on, as many as there are and as fit, are at the front of the new buffer, whose rest is unchanged
+-- n bytes of the page from `from` on, as many as there are and as fit, are at the start of the new buffer, whose rest is unchanged
 pub record Copies (page : held.Page) (from : ℕ) (old new : List ℕ) (n : ℕ) : Type 0 where
   pub many : n ≡ min (length old) (length page.bytes - from)
   pub front : take n new ≡ take n (drop from page.bytes)

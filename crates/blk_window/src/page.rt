@@ -59,7 +59,7 @@ impl Page {
         self.is_held && self.file == file && self.number == number
     }
 
-    /// Moves the bytes of the page that it holds, from a place in it on, into the front of `out`, as many as there are.
+    /// Moves the bytes of the page that it holds, from a place in it on, into a prefix of `out`, as many as there are.
     pub fn copy(&self, from: usize, out: &mut [u8]) -> usize
         ensures within { result ≤ length out.old }
         ensures copies { ForSome (seen self.now) (λ page. Copies page from out.old out.new result) }
@@ -190,7 +190,7 @@ fn copy_inside(bytes: &mut [u8], at: u64, new: &[u8])
     copy_over(bytes, place, &new[..n]);
 }
 
-// Moves the bytes from a place on into the front of `out`, as many as there are.
+// Moves the bytes from a place on into a prefix of `out`, as many as there are.
 fn copy_front(bytes: &[u8], at: usize, out: &mut [u8]) -> usize
     ensures within { result ≤ length out.old }
     ensures count { result ≡ min (length out.old) (length bytes.now - at) }

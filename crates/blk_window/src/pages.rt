@@ -99,7 +99,8 @@ impl Pages {
         }
     }
 
-    /// Moves bytes of a page from a place of the file on into the front of `out`, as many as there are, if the page is held. It is in front then.
+    /// Moves bytes of a page from a place of the file on into a prefix of `out`, as many as there are, if the page is held. It is the page that was used last
+    /// then.
     pub fn read(&mut self, file: FileId, at: u64, out: &mut [u8]) -> Option<usize>
         requires { at % 4096 + length out.old ≤ 4096 }
         ensures within { IfSome result (λ n. n ≤ length out.old) }
@@ -128,7 +129,7 @@ impl Pages {
         slot
     }
 
-    /// Changes the page with a slot that is free. What it holds is in front then.
+    /// Changes the page with a slot that is free. What the slot holds is the page that was used last then.
     pub fn put(&mut self, slot: u16, page: &mut Page)
         requires free { IsSlotFree self.old slot }
         ensures held { ForSome (seen page.old) (λ new. held_of self.new ≡ new ∷ held_of self.old) }

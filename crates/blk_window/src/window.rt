@@ -78,7 +78,7 @@ impl<F: Folder> Window<F> {
         ensures few { length (held_of self.now.pages) ≤ places_of self.now.pages }
     {}
 
-    // Moves bytes of one page into the front of `out`, as many as there are. It's the page that was used last then.
+    // Moves bytes of one page into a prefix of `out`, as many as there are. It's the page that was used last then.
     fn read_page(&mut self, file: FileId, at: u64, out: &mut [u8]) -> Result<usize, Failed>
         requires { at % 4096 + length out.old ≤ 4096 }
         ensures within { IfOk result (λ n. n ≤ length out.old) }
@@ -103,7 +103,7 @@ impl<F: Folder> Window<F> {
         Ok(n)
     }
 
-    // Moves bytes of the file into the front of `out`, page after page, as many as there are.
+    // Moves bytes of the file into a prefix of `out`, page after page, as many as there are.
     fn read_pages(&mut self, file: FileId, at: u64, out: &mut [u8]) -> Result<usize, Failed>
         requires { at + length out.old ≤ 2 ^ 64 }
         ensures within { IfOk result (λ n. n ≤ length out.old) }
@@ -190,7 +190,7 @@ impl<F: Folder> Folder for Window<F> {
         ensures written { OnOk result (held_of self.new.pages ≡ filter_map (written (file_of file) at bytes.now) (held_of self.old.pages)) }
         ensures dropped { OnErr result (held_of self.new.pages ≡ filter_map (unless_of (file_of file)) (held_of self.old.pages)) }
 
-        // Where the files are told no page is dropped by a write that was made.
+        // In an observable folder no page is dropped by a write that was made.
         ensures kept { OnOk result (ForSome (F.told self.old.inner).files (λ image. held_of self.new.pages ≡ map (rewritten (file_of file) at bytes.now) (held_of self.old.pages))) }
     {
         match self.inner.write_at(file, at, bytes) {

@@ -13,7 +13,7 @@ of_blocks true n s e = absurd (clash e)
     clash c = cc
 of_blocks false n s e = ((λ i. false), cc)
 
--- their number
+-- the number of the blocks
 blocks_are : (size kind block : ℕ) → kind ≡ storage.kind_for size → (kind == external) ≡ false → block ≡ block_size kind → 0 < block → div_ceil size block ≡ storage.blocks_for size
 unfolding storage.blocks_for block_size
 blocks_are size kind block of_size some is above = grind (arith, common_steps)

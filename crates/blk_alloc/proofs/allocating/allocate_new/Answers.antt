@@ -31,7 +31,7 @@ use Rattle.blk_alloc.proofs.Rooms.{given_made, never_full, room_marked, told_lat
 use Rattle.blk_io.proofs.Carried.{carried, if_damaged_weaker, told_at_end, untold_where}
 use Rattle.blk_alloc.proofs.allocating.allocate_new.Goals as goal
 
--- a failed check needs a folder that was opaque at the start
+-- a failed check needs a folder that was opaque at the start of the call
 silent_start : {old mid : Told} (P : Image → Image → Type 0) (T : Image → Type 0) → ForSome old.files (λ from. PassesTo old mid (P from) (P from)) → ForSome old.files (λ from. ForSome mid.files T) → (ForSome mid.files T → mid.files ≡ None) → old.files ≡ None
 silent_start {old} {mid} P T stops made none = by_files old.files refl
   where

@@ -18,7 +18,7 @@ joined e bytes r0 r1 r2 r3 e0 e1 e2 e3 is = rw (is, e0, e1, e2, e3) refl
 number_stands : (n : ℕ) (fields : List ℕ) → length fields ≡ 80 → (image : Image) → HasReadCounters n fields image → StandAt (Block n) 16 (take 4 (drop 16 fields)) 4 image
 number_stands n fields long image read i small = content_part fields 16 4 i (omega (arith, long)) small ∙ read (16 + i) (omega arith) (omega (arith, small))
 
--- and so does `empty`, once the number is written
+-- `empty` is as it was read, once the number is written
 runs_stand : (n : ℕ) (fields first : List ℕ) → length fields ≡ 80 → (from image : Image) → HasReadCounters n fields from → AreBytesWritten (Block n) 16 first 4 from image → StandAt (Block n) 24 (take 16 (drop 24 fields)) (length (take 16 (drop 24 fields))) image
 runs_stand n fields first long from image read written i small =
     let many = length-take 16 (drop 24 fields) in

@@ -28,7 +28,7 @@ runs_are claims n groups bytes empty few marks counts i small =
 map_there : (n : ℕ) (map : List ℕ) → length map ≡ 8112 → (image : Image) → StandAt (Block n) 80 map 8112 image → StandAt (Block n) 80 map (length map) image
 map_there n map long image stands = subst (λ (k : ℕ). StandAt (Block n) 80 map k image) (sym long) stands
 
--- and so do the counters, once the map is written
+-- the counters are as they were read, once the map is written
 counters_still : (n : ℕ) (fields bytes : List ℕ) (count : ℕ) (from image : Image) → HasReadCounters n fields from → AreBytesWritten (Block n) 80 bytes count from image → HasReadCounters n fields image
 counters_still n fields bytes count from image read written i low high = read i low high ∙ sym (written.same.bytes (Block n) i (range_beside (Block n) 80 count i (inl (omega (arith, high)))))
 

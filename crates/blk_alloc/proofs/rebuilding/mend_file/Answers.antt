@@ -42,7 +42,7 @@ counts_still n groups map fields long bytes from image groups_are read written =
     let only = only_updating n bytes from image written in
     record { groups_are = groups_are ∙ ap groups_of (sym (blocks_kept n from image only)); map_stands = map_stands from n map fields long read image only; counters = fields_stand from n map fields long read image only }
 
--- and updating is what was written
+-- once updating is written, it is the word that was written
 one_there : (n : ℕ) (bytes : List ℕ) → bytes ≡ word_bytes 1 → (from image : Image) → AreBytesWritten (Block n) 56 bytes 4 from image → StandAt (Block n) 56 (word_bytes 1) 4 image
 one_there n bytes are from image written i small = sym (written.there i small ∙ ap (λ (l : List ℕ). content l i) are)
 

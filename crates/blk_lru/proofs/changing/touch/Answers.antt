@@ -54,7 +54,7 @@ between_is g c from there = (c.in_ok-move_front.ensures.steps from there).files 
 ready_here : (g : given.Over) (c : goal.After-set_times g) → ForSome (g.F.Folder.told c.args.f.now).files (IsReady c.args.files.now)
 ready_here g c = told_ready c.args.files.now (g.F.Folder.told c.args.f.now) c.requires.is_open (g.met.F.Folder.are_bytes c.args.f.now)
 
--- the node checked before, where it does now
+-- the checksum of the node matched or was absent before, where that is so now
 good_here : (g : given.Over) (c : goal.After-set_times g) → OnOk c.set_times.result (ForSome (g.F.Folder.told c.args.f.now).files (λ from. (list_of from).checks c.args.node ≡ true))
 good_here g c =
     on_ok_weaker c.set_times.result

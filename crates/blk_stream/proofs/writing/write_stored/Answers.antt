@@ -91,7 +91,7 @@ pub returns-in-None-clause-staged : goal.returns-in-None-clause-staged
 returns-in-None-clause-staged g c from there stored can image now =
     subst (IsWrittenByStage c.args.files.now c.args.files.now c.args.entry c.args.stream (writes.size_after c.args.cut c.args.old.size c.args.offset (length c.args.bytes.now)) c.args.offset c.args.bytes.now from) (some_inj (sym there ∙ now)) (inl (nothing_in_place c.args.entry c.args.stream (writes.size_after c.args.cut c.args.old.size c.args.offset (length c.args.bytes.now)) from c.requires.kind (g.met.F.Folder.are_bytes c.args.folder.now from there) (subst (λ (n : ℕ). writes.have_one_storage n (writes.size_after c.args.cut c.args.old.size c.args.offset (length c.args.bytes.now)) ≡ true) (sym stored.words.size_is) (subst (λ (n : ℕ). writes.have_one_storage c.args.old.size n ≡ true) c.size_after-size.ensures (sym c.have_one_storage.ensures ∙ c.if-not-have_one_storage.false))) can.checks))
 
--- The seal.
+-- The checksum.
 
 pub returns-then-not-have_one_storage-clause-sealed : goal.returns-then-not-have_one_storage-clause-sealed
 returns-then-not-have_one_storage-clause-sealed g c =

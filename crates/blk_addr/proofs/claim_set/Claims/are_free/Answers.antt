@@ -8,7 +8,7 @@ use Rattle.blk_addr.specs.declared.claim_set.Claims.{Claims}
 use Rattle.blk_addr.proofs.ClaimGroupLemmas.{free-overlap, free_by}
 use Rattle.blk_addr.proofs.claim_set.Claims.are_free.Goals as goal
 
--- where no two meet, the other test tells
+-- where no two meet, the other test decides
 none_meet : (claims : Claims) (addrs : List ℕ) (meet any : Bool) → meet ≡ false → meet ≡ repeats (claims_of_all addrs) → any ≡ list_any (is_claimed claims) addrs → not any ≡ are_free claims addrs
 none_meet claims addrs meet any none once is = ap (λ (t : Bool). not (t || any)) (sym none) ∙ free_by claims addrs meet any once is
 

@@ -6,7 +6,7 @@ use Rattle.spec_format.specs.Headers.{empty_of}
 use Rattle.blk_alloc.proofs.Headers.{field_read}
 use Rattle.blk_alloc.proofs.counters.Counters.read.Goals as goal
 
--- four numbers that are each as it is told
+-- four numbers that are each the value of a function at their place
 each_of_four : (a b c d : ℕ) (f : ℕ → ℕ) → a ≡ f 0 → b ≡ f 1 → c ≡ f 2 → d ≡ f 3 → (i : ℕ) → i < 4 → slice_index (a ∷ b ∷ c ∷ d ∷ []) i ≡ f i
 each_of_four a b c d f e0 e1 e2 e3 zero small = e0
 each_of_four a b c d f e0 e1 e2 e3 (suc zero) small = e1

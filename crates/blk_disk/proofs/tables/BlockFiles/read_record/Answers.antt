@@ -32,7 +32,7 @@ returns-clause-damaged g c = inr (unsealed_here g c)
 pub returns-clause-untold : goal.returns-clause-untold
 returns-clause-untold g c agrees checks = untold_unsealed _ _ _ (unsealed_here g c) checks
 
--- a record whose seal isn't wrong checks
+-- a record whose checksum isn't wrong has one that matches or is absent
 right_seal : (seal : ℕ) (bytes : List ℕ) → wrong_seal seal bytes ≡ None → checks seal bytes ≡ true
 right_seal seal bytes none = by_test (checks seal bytes) refl
   where

@@ -11,7 +11,7 @@ use Rattle.spec_format.proofs.SealedRecords.{moment_before}
 use Rattle.blk_disk.proofs.MissingSeals.{agrees_sealed, prefix_sealed, steps_sealed, stops_sealed, updated_sealed}
 use Rattle.blk_disk.proofs.tables.BlockFiles.seal.Goals as goal
 
--- A record that wasn't read, or doesn't check.
+-- The record wasn't read, or its checksum is wrong.
 
 pub returns-in_err-read_record-clause-stops : goal.returns-in_err-read_record-clause-stops
 returns-in_err-read_record-clause-stops g c from there good =

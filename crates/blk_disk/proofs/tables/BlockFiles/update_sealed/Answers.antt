@@ -10,7 +10,7 @@ use Rattle.spec_format.proofs.SealedRecords.{moment_before}
 use Rattle.blk_disk.proofs.SealedWrites.{checks_after, prefix_read, steps_read, stops_read, updated_read}
 use Rattle.blk_disk.proofs.tables.BlockFiles.update_sealed.Goals as goal
 
--- A record that wasn't read, or doesn't check.
+-- The record wasn't read, or its checksum is wrong.
 
 pub returns-in_err-read_record-clause-stops : goal.returns-in_err-read_record-clause-stops
 returns-in_err-read_record-clause-stops g c from there good =

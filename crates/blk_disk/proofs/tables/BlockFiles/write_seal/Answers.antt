@@ -17,7 +17,7 @@ use Rattle.blk_disk.proofs.tables.BlockFiles.write_seal.Given as given
 use Rattle.blk_disk.proofs.tables.BlockFiles.write_seal.Goals as goal
 use Rattle.blk_disk.proofs.tables.BlockFiles.write_seal.Goals.{After-file_of, After-write_word}
 
--- the place of the seal, and the name of the file
+-- the place of the checksum, and the name of the file
 place_here : (g : given.Over) (c : After-file_of g) → c.place_of.result + c.from.result ≡ place c.args.addr + seal_place c.args.addr
 place_here g c = ap₂ (λ (p s : ℕ). p + s) c.place_of.ensures.place (c.from.ensures ∙ c.seal_of.ensures.place ∙ ap seal_by_kind c.kind.ensures)
 
