@@ -49,10 +49,10 @@ untold_last r {a} {m} P Q stronger stays untold holds =
     weaker r (λ _. m.files ≡ None) (λ _. a.files ≡ None) (λ damage none. ap (λ (t : Told). t.files) (sym stays) ∙ none)
     (untold (conditions.told_stays Q stays (λ image there. stronger image (holds image there))))
 
--- the same where `?` hands its fault on
+-- what a call gives only on an opaque folder, where `?` hands its fault on
 pub untold_on : {A B : Type 0} (r : Result A ScanFault) (q : Result B ScanFault) (e : ScanFault) {a m : Told} (P Q : Image → Type 0) → ((image : Image) → P image → Q image) → m ≡ a → (ForSome m.files Q → IfScanDamaged r (λ _. m.files ≡ None)) → r ≡ Err e → IsErrAnd q (λ (x : ScanFault). x ≡ e) → ForSome a.files P → IfScanDamaged q (λ _. a.files ≡ None)
 untold_on r q e {a} {m} P Q stronger stays untold is same holds = carried r q e (λ _. a.files ≡ None) is same (untold_last r P Q stronger stays untold holds)
 
--- and of a call on a folder
+-- what a call gives only on an opaque folder, where `?` converts the fault of a folder's call
 pub untold_converted : {A B : Type 0} (r : Result A Fault) (q : Result B ScanFault) (e : Fault) {a m : Told} (P Q : Image → Type 0) → ((image : Image) → P image → Q image) → m ≡ a → (ForSome m.files Q → IfDamaged r (λ _. m.files ≡ None)) → r ≡ Err e → IsErrAnd q (λ (x : ScanFault). x ≡ scan_fault e) → ForSome a.files P → IfScanDamaged q (λ _. a.files ≡ None)
 untold_converted r q e {a} {m} P Q stronger stays untold is same holds = converted r q e (λ _. a.files ≡ None) is same (conditions.untold_last r P Q stronger stays untold holds)

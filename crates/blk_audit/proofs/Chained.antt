@@ -15,7 +15,7 @@ module _ (store : StoreView) (bucket : ℕ) where
   abbrev pub reached_from : ℕ → List ℕ → ℕ → List ℕ
   reached_from most met w = (chain_from store bucket most met w).reached
 
-  -- and the word at which it ends
+  -- the word at which a chain ends
   abbrev pub end_from : ℕ → List ℕ → ℕ → ℕ
   end_from most met w = (chain_from store bucket most met w).end
 

@@ -36,7 +36,7 @@ small : (w : ℕ) → is_initialized w ≡ true → w < 2 ^ 32
 unfolding is_initialized
 small w is = let top : w / 2 ^ 31 ≡ 1 = eqb-true (w / 2 ^ 31) 1 is in omega arith
 
--- and its word says its file and its block
+-- the word of a node says its file and its block
 pub node_word : (w : ℕ) → IsNodeWord w → block_word 1 (file_selector w) (first_block w) 1 ≡ w
 node_word w is =
     ap (λ (k : ℕ). block_word k (file_selector w) (first_block w) 1) (sym is.kind)

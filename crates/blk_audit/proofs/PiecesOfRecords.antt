@@ -65,7 +65,7 @@ first_there image w kind there =
     let at : place (first_block_of w) ≡ place w = block_at (file_selector w) (first_block w) small.file small.start ∙ sym (record_place w kind) in
     subst (λ (f : ℕ). HasRange image (Block f) (place w) 96) file (subst (λ (p : ℕ). HasRange image (Block (file_selector (first_block_of w))) p 96) at there)
 
--- and so is its key
+-- the key in the record at the first block of an address is that of the address
 same_bytes : (image : Image) (w n : ℕ) → kind_of w ≡ blocks_256 → range_at (block_bytes image (first_block_of w)) (place (first_block_of w) + 96) n ≡ range_at (block_bytes image w) (place w + 96) n
 same_bytes image w n kind =
     let small = AreFields-of w in
@@ -107,7 +107,7 @@ stored_short image w fields key short is =
     let shown : stored_key (store_of image) w fields ≡ (if fields.long_key == 0 then Some (range_at (block_bytes image w) (place w + 96) fields.key_len) else None) = rw short refl in
     value_by (fields.long_key == 0) (range_at (block_bytes image w) (place w + 96) fields.key_len) key (sym is ∙ shown)
 
--- its hash is taken where it lies in these bytes
+-- the hash of a short key is taken where the key lies in these bytes
 hash_is : (image : Image) (w : ℕ) (words : RecordWords) (f : ℕ → ℕ) (p m : ℕ) (bytes : List ℕ) → bytes ≡ range_at f p m → length bytes ≡ m → ((n : ℕ) → range_at (block_bytes image w) (place w + 96) n ≡ range_at f p n)
     → is_hash_in words.hash words.key_len bytes ≡ true → IsHashOfKey image w words words.hash
 hash_is image w words f p m bytes are size here right key stored =

@@ -34,7 +34,7 @@ module _ (files : BlockFiles) (image : Image) where
       let at : place w ≡ place v = record_place w kind ∙ ap (λ (b : ℕ). 8192 + b * 256) (sym (block_by w v same)) ∙ sym (record_place v other) in
       subst (λ (f : ℕ). HasRange image (Block f) (place v) 96) (sym (file_by w v same)) (subst (λ (p : ℕ). HasRange image (Block (file_selector w)) p 96) at there)
 
-  -- so a word whose first block was met is that of a record that is there
+  -- a word whose first block was met is that of a record that is there
   pub met_there : (words : List ℕ) (v : ℕ) → AreReachedThere files image words → is_met words v ≡ true → HasEntry files image v
   met_there [] v each met is = clash met
   met_there (w ∷ words) v each met is =

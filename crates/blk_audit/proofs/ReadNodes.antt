@@ -69,7 +69,7 @@ module _ (image : Image) (lists : Lists) (are : AreListsOf image lists) where
       fields_are image lists.nodes addr are.nodes
       ∙ ap (option_map fields_by) (loaded_is lists.nodes addr (is_node i addr is).address ∙ said)
 
-  -- and what is kept of it is what the image says
+  -- what is kept of a walked node is what the image says
   pub walked_said : (i addr : ℕ) (node : Node) → slice_get (nodes_walked lists.walked) i ≡ Some addr → node_of lists.nodes addr ≡ Some node → node ≡ said_at image addr
   walked_said i addr node is said = some_of (sym said ∙ loaded i addr is)
     where

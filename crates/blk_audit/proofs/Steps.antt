@@ -56,7 +56,7 @@ module _ (writes : List ListWrite) (nodes : Nodes) (head : ℕ) where
   and_last true false = refl
   and_last false b = refl
 
-  -- its prev is another node than the one before
+  -- the prev of the node is another node than the one before
   pub link_far : (old : List ℕ) (link : Link) (node : Node) (prev : ℕ) → loaded_node nodes link.word ≡ Some node → prev ≡ prev_written writes link.word node.prev → (prev == link.before) ≡ false → is_next (list_after writes nodes head) old link ≡ false
   link_far old link node prev at is far =
       ap (λ (t : Bool). (list_after writes nodes head).checks link.word && not (is_among old link.word) && t) (ap (λ (p : ℕ). p == link.before) (prev_is link.word node at ∙ sym is) ∙ far)
@@ -66,13 +66,13 @@ module _ (writes : List ListWrite) (nodes : Nodes) (head : ℕ) where
   and_middle true c = refl
   and_middle false c = refl
 
-  -- it was met
+  -- the node was met
   pub link_met : (old : List ℕ) (link : Link) → is_among old link.word ≡ true → is_next (list_after writes nodes head) old link ≡ false
   link_met old link met =
       ap (λ (t : Bool). (list_after writes nodes head).checks link.word && not t && ((list_after writes nodes head).prev link.word == link.before)) met
       ∙ and_middle ((list_after writes nodes head).checks link.word) ((list_after writes nodes head).prev link.word == link.before)
 
-  -- it is walked
+  -- the node is walked
   pub link_next : (old : List ℕ) (link : Link) (node : Node) (prev : ℕ) → loaded_node nodes link.word ≡ Some node → node.checks ≡ true → prev ≡ prev_written writes link.word node.prev → prev ≡ link.before → is_among old link.word ≡ false → is_next (list_after writes nodes head) old link ≡ true
   link_next old link node prev at good is near new =
       let checks = checks_is link.word ∙ ap (λ (o : Option Node). option_map_or (λ n. n.checks) o false) at ∙ good in

@@ -27,7 +27,7 @@ is_one byte b = bit_at byte (b % 8) == 1
 pub frees_none : (old : List ℕ) (place : ℕ) (new : List ℕ) (b : ℕ) → (80 + b / 8 < place) ⊎ (place + length new ≤ 80 + b / 8) → frees old place new b ≡ false
 frees_none old place new b apart = ap (λ (v : ℕ). is_one (content old (80 + b / 8)) b && not (is_one v b)) (content-spliced_outside place new old (80 + b / 8) apart) ∙ never_both (is_one (content old (80 + b / 8)) b)
 
--- and one over its byte of the map frees it where the bit was 1 and becomes 0
+-- a write over the byte of the map that has a block's bit frees the block where the bit was 1 and becomes 0
 pub frees_some : (old : List ℕ) (place : ℕ) (new : List ℕ) (b k : ℕ) → 80 + b / 8 ≡ place + k → k < length new → 80 + b / 8 < length old
     → frees old place new b ≡ (is_one (content old (80 + b / 8)) b && not (is_one (content new k) b))
 frees_some old place new b k is here inside = ap (λ (v : ℕ). is_one (content old (80 + b / 8)) b && not (is_one v b)) (content-spliced_inside place new old k (80 + b / 8) is here inside)
@@ -80,7 +80,7 @@ over_none test file size long n (suc more) none =
     ∙ ap (λ (t : Bool). zeros_over_blocks test file size long (n + more) ++ (if t then zeros_over_block file size long (n + more) else [])) (none (n + more) past within)
     ∙ append-nil (zeros_over_blocks test file size long (n + more)) ∙ over_none test file size long n more (λ b above below. none b above (omega arith))
 
--- the same blocks pass
+-- zeros over blocks are the same where the same blocks pass
 pub over_same : (test other : ℕ → Bool) (file : File) (size long n : ℕ) → ((b : ℕ) → b < n → test b ≡ other b) → zeros_over_blocks test file size long n ≡ zeros_over_blocks other file size long n
 unfolding zeros_over_blocks
 over_same test other file size long zero same = refl
@@ -160,7 +160,7 @@ none_before old place new file size long n is =
     early : (b : ℕ) → b < 0 + n → 80 + b / 8 < place
     early b below = omega (arith, is)
 
--- and none after them
+-- no block after those whose bits are in the bytes of a write is freed
 pub none_behind : (old : List ℕ) (place : ℕ) (new : List ℕ) (file : File) (size long n : ℕ) → n ≡ 8 * ((place + min (length new) (8192 - place)) - 80) → place < 8192
     → zeros_over_blocks (frees old place new) file size long 64896 ≡ zeros_over_blocks (frees old place new) file size long n
 none_behind old place new file size long n is front =

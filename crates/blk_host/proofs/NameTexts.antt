@@ -48,7 +48,7 @@ block-named (External n) number e there P goal = absurd (differs e)
         unequal : ◌≡◌ {A = ℕ} 100 102 → ⊥
         unequal first = grind (arith)
 
--- and likewise of an external file
+-- a name that begins as an external file's is that of an external file
 pub external-named : (file : FileId) (number : List ℕ) → codes "f_" ++ number ≡ name_text file
     → IsCacheFile file → (P : FileId → Type 0) → ((n : ℕ) → IsCacheFile (External n) → number ≡ hex_text 6 n → P (External n)) → P file
 unfolding name_of

@@ -32,7 +32,7 @@ unfolding head_bytes
 front-known head bytes small enough right signature key_len block len =
     prefix-words bytes 16 small enough ∙ ap bytes_of_words (head-known (content bytes) small right ∙ λ k. head_words (signature k) (key_len k) (block k) (len k))
 
--- the same of what was seen of the bytes
+-- bytes of which the words of a head were read begin with the bytes of that head
 pub front-seen : (head : ParentHead) (bytes seen : List ℕ) (x y : ℤ) (len : ℕ) → seen ≡ bytes → ((i : ℕ) → content bytes i < 256) → 64 ≤ length bytes → is_index_head (content seen) ≡ true
     → head.signature ≡ cast_signed w64 (cast_unsigned w64 x) → x ≡ signature_said (content seen) → head.key_len ≡ parent_key_len_of (content seen)
     → y ≡ last_block_of (content seen) → cast_unsigned w32 y ≡ minus_one → len ≡ last_block_len_of (content seen) → len ≡ 0 → take 64 bytes ≡ head_bytes head
@@ -45,7 +45,7 @@ front-seen head bytes seen x y len same small enough right is_signature is_x key
     let block : word_at f 16 ≡ minus_one = sym (of_z-to_z w32 (word_at f 16) (word_fits 16)) ∙ ap (cast_unsigned w32) (sym is_y) ∙ none in
     ap (take 64) (sym same) ∙ front-known head seen byte (omega (arith, ap length same)) right signature (sym key_len) block (sym is_len ∙ no_piece)
 
--- and bytes that begin so say it
+-- bytes that begin with the bytes of a head say it
 pub head-read : (head : ParentHead) (rest : List ℕ) → IsParentHead head → read_parent_head (content (head_bytes head ++ rest)) ≡ Some (head_fields head)
 unfolding head_bytes
 head-read head rest valid =
@@ -115,7 +115,7 @@ length-head : (head : ParentHead) → length (head_bytes head) ≡ 64
 unfolding head_bytes
 length-head head = refl
 
--- and those that are printed
+-- a head and bits that are printed
 pub index-printed : (m : ParentMap) → IsParentHead m.head → length m.parts ≡ 8192 → read_parent_index (parent_bytes m) ≡ Some (parent_index_of m)
 unfolding parent_bytes
 index-printed m valid long =
@@ -194,7 +194,7 @@ heads-same f g same = λ j i. at i j
       | inr above ↦ let no_more : nat_lt i 64 ≡ false = le-ltb i 64 above in rw no_more refl
     ]
 
--- so a head is the same
+-- a head is the same where what it is read from is the same
 head-same : (f g : ℕ → ℕ) → head-part g ≡ head-part f → is_index_head g ≡ is_index_head f
 unfolding words_at
 head-same f g same = ap is_index_head same

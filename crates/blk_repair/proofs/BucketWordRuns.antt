@@ -49,7 +49,7 @@ front-elsewhere bucket w image = ((λ other apart. refl), (λ other apart. word-
 pub others-front : {a b : Told} (bucket w : ℕ) → AppliesPrefix a b (word_step Index (place_of_bucket bucket) w) → ForSome a.files (λ from. ForSome b.files (KeepsOtherBuckets bucket from))
 others-front {a} {b} bucket w part = told_rel (KeepsOtherBuckets bucket) part (front-elsewhere bucket w)
 
--- and then records were linked
+-- the word of a bucket was written, or wasn't, and then records were linked
 pub others-kept : (a m b : Told) (bucket : ℕ) (words : List ℕ) → ForSome a.files (λ from. ForSome m.files (KeepsOtherBuckets bucket from)) → ForSome m.files (λ mid. Applies m b (next_words_steps words mid)) → (m.files ≡ None → b.files ≡ None)
     → ForSome a.files (λ from. ForSome b.files (KeepsOtherBuckets bucket from))
 others-kept a m b bucket words front links silent from there =

@@ -68,7 +68,7 @@ are-kept : (from : Image) (bucket : ℕ) → All (λ w. is_kept_record (kept fro
 unfolding kept_records
 are-kept from bucket = filter_passes (is_kept_record (kept from)) (chain (store_of from) bucket).reached
 
--- so their checksums match or are absent where the same is held
+-- the checksums of the kept records of a bucket match or are absent where the same is held
 pub kept-check : (from : Image) (bucket : ℕ) (words : List ℕ) → words ≡ kept_records from bucket → (image : Image) → HoldsTheSame from image → AllCheck words image
 kept-check from bucket words are image holds =
     subst (λ (l : List ℕ). AllCheck l image) (sym are)

@@ -51,7 +51,7 @@ next-right image entry w now e is = next-by image entry w now e true (eq-eqb now
 pub next-other : (image : Image) (entry w now : ℕ) → now ≡ (store_of image).chain_next entry → now ≢ w → next_steps entry w image ≡ sealed_steps image entry ((entry_next_place, w) ∷ [])
 next-other image entry w now e apart = next-by image entry w now e false (ne_eqb now w apart)
 
--- both leave the folder open
+-- a choice of some steps or none leaves the folder open
 pub choice-open : (files : BlockFiles) (image : Image) (b : Bool) (steps : List TrailStep) → IsOpen files image → Along (IsOpen files) image steps → Along (IsOpen files) image (if b then [] else steps)
 choice-open files image true steps is all = is
 choice-open files image false steps is all = all
@@ -84,7 +84,7 @@ next-later files a m entry w now P is_open stands read apart stays holds from th
     subst (P a) (sym (next-other from entry w now (next_is files from entry now (is_open from there).agrees stands (read from there)) apart))
     (subst (λ (t : Told). ForSome t.files (λ from. P t (sealed_steps from entry ((4, w) ∷ [])))) stays holds from there)
 
--- and so does a chain of them
+-- the links of a chain leave the folder open
 pub links-open : (files : BlockFiles) (words : List ℕ) (image : Image) → IsOpen files image → Along (IsOpen files) image (next_words_steps words image)
 links-open files [] image is = is
 links-open files (w ∷ words) image is =

@@ -118,7 +118,7 @@ written-there : (image : Image) (at x : ℕ) → IsPlace at → x < 2 ^ 32 → H
 unfolding word_step
 written-there image at x place small whole = word-after_same image Index at x small (let a = place.0 in let inside = place.1 in omega (arith, a, inside, whole))
 
--- and another one is as before
+-- a word other than the one that is written is as before
 written-other : (image : Image) (at x other : ℕ) → at % 4 ≡ 0 → other % 4 ≡ 0 → at ≢ other → word (after (word_step Index at x) image) Index other ≡ word image Index other
 unfolding word_step
 written-other image at x other a b apart = word-after_other image Index at (word_bytes x) other (omega (arith, a)) b (λ e. apart (omega (arith, a, b, e)))
@@ -311,7 +311,7 @@ module _ (items bytes id : ℕ) (i : items < 2 ^ 32) (b : bytes < 2 ^ 64) (d : i
       let S : Image → Type 0 = StaysMended entry image in
       until_weaker2 S (HasMendedLinksOf entry) S (HasMendedLinksOf entry) (index_steps items bytes id image) image (λ i is. is.holds) (λ i is. is.holds) (stays-index holds)
 
-  -- and in the end the counters count what is kept
+  -- in the end the counters count what is kept
   pub index-mended : HasWholeIndex image → IsNextCounted entry items bytes image → IsIndexMended entry image (after (index_steps items bytes id image) image)
   index-mended whole next =
       let S : Image → Type 0 = StaysMended entry image in

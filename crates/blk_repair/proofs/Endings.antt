@@ -15,7 +15,7 @@ use Rattle.blk_repair.proofs.CrashWord.{IsOther, SpareIt, spare-append}
 
 -- ---- steps that spare the crash word
 
--- so do the first of them
+-- the first of some steps that spare the crash word spare it
 pub spare-prefix : (s t : List TrailStep) → SpareIt (s ++ t) → SpareIt s
 spare-prefix [] t spare = All-nil IsOther
 spare-prefix (x ∷ s) t spare = All-cons IsOther x s (All-head IsOther x (s ++ t) spare) (spare-prefix s t (All-tail IsOther x (s ++ t) spare))
@@ -72,7 +72,7 @@ breaks-prefix {a} {b} {s} P part quiet spare along = record {
   unmarked = spare;
 }
 
--- so does each part of steps that do
+-- each part of steps that spare the crash word spares it
 pub breaks-part : {a b : Told} {s : List TrailStep} (P : Image → Type 0) → AppliesPrefix a b s → HasNoNote s → SpareIt s → ForSome a.files (λ image. Along P image s) → RepairBreaksOff a b P
 breaks-part {a} {b} {s} P part quiet spare along = breaks-prefix P part quiet (spare-prefix part.made part.left (subst SpareIt part.split spare)) along
 
@@ -148,7 +148,7 @@ ends-then {a} {b} {c} {P} {Q} first ends =
 pub ends-stayed : {a m b : Told} {P Q : Image → Type 0} → m ≡ a → EndsWithCrashWord m b P Q → EndsWithCrashWord a b P Q
 ends-stayed {a} {m} {b} {P} {Q} stays ends = subst (λ (t : Told). EndsWithCrashWord t b P Q) stays ends
 
--- and after
+-- a call that stayed comes after
 pub ends-stay : {a b c : Told} {P Q : Image → Type 0} → EndsWithCrashWord a b P Q → c ≡ b → EndsWithCrashWord a c P Q
 ends-stay {a} {b} {c} {P} {Q} ends stays = subst (λ (t : Told). EndsWithCrashWord a t P Q) (sym stays) ends
 

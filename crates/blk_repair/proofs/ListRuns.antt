@@ -82,7 +82,7 @@ module _ (image : Image) (nodes others : List ℕ) (scanned : IsListScanned node
       ap (λ (l : List ℕ). steps_of_writes (end_writes (list_of done)) done ++ removal_steps l (ended_image image)) dropped
       ∙ ap (λ (w : List ListWrite). steps_of_writes w done ++ removal_steps (all_but nodes others) (after (steps_of_writes w done) done)) end-writes
 
-  -- so the parts are the repair of the list
+  -- the parts together are the repair of the list
   pub steps-are : list_repair_steps image ≡ mending_steps nodes others image
   steps-are = ap (λ (l : List TrailStep). completion_steps image ++ l) from-end
 
@@ -93,7 +93,7 @@ module _ (image : Image) (nodes others : List ℕ) (scanned : IsListScanned node
   can-end : CanBeMade done (ending_writes (list_of done) (last_node_of nodes))
   can-end = subst (CanBeMade done) end-writes (end-can done)
 
-  -- and then nothing is taken out yet
+  -- after the end is repaired nothing is taken out yet
   is-ended : IsEndedList image nodes others (after (ending_steps (last_node_of nodes) done) done)
   is-ended = record {
     well_formed = scanned.well_formed;
@@ -140,7 +140,7 @@ module _ (old : Told) (nodes others : List ℕ) where
           ended-made : ForSome mid.files (λ from. Applies mid next (ending_steps (last_node_of nodes) from))
           ended-made = subst (λ (l : Option ℕ). ForSome mid.files (λ from. Applies mid next (ending_steps l from))) is mended
 
-          -- and the end repaired
+          -- the end is repaired
           pub ended-then : Progress old next (mending_steps nodes others) (removal_steps (all_but nodes others))
           ended-then = went_on completed-first (ending_steps (last_node_of nodes)) (removal_steps (all_but nodes others)) next (end-leads nodes others) ended-made silently
 

@@ -59,7 +59,7 @@ module _ (from image : Image) (w u : ℕ) (kind_w : kind_of w ≡ blocks_256) (k
   checks-still : RecordChecks u image
   checks-still = by_file (file_selector w == file_selector u) refl
 
--- and so do all of some records that are there
+-- the checksums of all of some records that are there still match or are absent
 all-still : (files : BlockFiles) (from image : Image) (w : ℕ) (words : List ℕ) (changes : List (ℕ × ℕ)) → is_record_among files w ≡ true → All (λ u. is_record_among files u ≡ true) words → IsMidUpdate from w changes image → AllCheck words from → AllCheck words image
 all-still files from image w [] changes stands all mid are = All-nil (λ u. RecordChecks u image)
 all-still files from image w (u ∷ words) changes stands all mid are =
@@ -102,7 +102,7 @@ links-check-others files (w ∷ words) others image is stands stand are they =
     until-append (AllCheck others) (AllCheck others) first (next_words_steps words (after first image)) image here
     (links-check-others files words others (after first image) (until_last (IsOpen files) (IsOpen files) first image (next-open files w x image is)) behind stand (until_last (AllCheck words) (AllCheck words) first image left) (until_last (AllCheck others) (AllCheck others) first image here))
 
--- so the checksums of records match or are absent at each word of their own links
+-- the checksums of records match or are absent at each word of their own links
 pub links-check : (files : BlockFiles) (words : List ℕ) (image : Image) → IsOpen files image → All (λ u. is_record_among files u ≡ true) words → AllCheck words image → Along (AllCheck words) image (next_words_steps words image)
 links-check files words image is stand are = links-check-others files words words image is stand stand are are
 

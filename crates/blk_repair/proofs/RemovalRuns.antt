@@ -70,7 +70,7 @@ quiet-removals (node ∷ nodes) image =
     let first : List TrailStep = operation_steps remove node image in
     quiet-append first (removal_steps nodes (after first image)) (quiet-writes (writes_of remove node (list_of image)) image) (quiet-removals nodes (after first image))
 
--- the same is held at each word, and in the end the list is repaired
+-- at each word of the removals the same is held, and in the end the list is repaired
 abbrev pub Runs : Image → Image → List ℕ → List ℕ → Type 0
 Runs entry image nodes others = Along (HoldsTheSame entry) image (removal_steps (all_but nodes others) image) × IsListMended entry (after (removal_steps (all_but nodes others) image) image)
 

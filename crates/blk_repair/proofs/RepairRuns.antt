@@ -65,7 +65,7 @@ use Rattle.blk_repair.proofs.SealRuns.{MayBeSealed, one-may}
 pub still-told : {a b : Told} {P : Image → Type 0} (from : Image) → a.files ≡ Some from → PassesAny a b P → (now : Image) × (b.files ≡ Some now)
 still-told {a} {b} from there passes = (after passes.steps from, passes.applies.files ∙ ap (option_map (after passes.steps)) there)
 
--- so they aren't only where they weren't
+-- a folder is opaque after a call only where it was opaque before it
 pub none-before : (a b : Told) → ForSome a.files (λ from. (now : Image) × (b.files ≡ Some now)) → b.files ≡ None → a.files ≡ None
 none-before a b told none = by_files a.files refl
   where
@@ -139,7 +139,7 @@ left-sealed entry from image words holds seals others = λ w of.
     let may : MayBeSealed from w = one-may entry from w holds of in
     ⊎_elim (λ (was : IsSealedAt from w). inl (seals w may.stands may.begins was)) (λ (among : Contains words w). inr among) (others w of)
 
--- both are repaired
+-- the LRU list and the chains are repaired
 pub links-mended : (scan : Scan) (from mid last : Image) → IsRepairable scan from → HoldsTheSame from mid → IsListMended from mid → HoldsTheSame mid last → AreChainsMended mid last → AreLinksMended scan from last
 links-mended scan from mid last is holds list_mended holds_last chained =
     let now : HoldsTheSame from last = holds-trans from mid last holds holds_last in
@@ -181,7 +181,7 @@ deletion-mid entry from image mid = keeps-mid entry image mid.holds.keeps
 pub claims-next : (entry from image : Image) (claims : Claims) → IsNextRebuilt entry claims from → IsMidDeletion entry from image → IsNextRebuilt entry claims image
 claims-next entry from image claims next mid = record { holds = mid.holds; claimed = next.claimed }
 
--- both kinds of files are gone
+-- the unlinked block files and the unused external files are gone
 others-deleted : (entry from mid last : Image) (claims : Claims) → IsNextRebuilt entry claims from → IsMidDeletion entry from mid → OnlyLinked mid → IsMidDeletion entry mid last → OnlyClaimed last (claims_of_loaded (kept last)) → AreOthersDeleted entry from last
 others-deleted entry from mid last claims next first linked second claimed = record {
   holds = second.holds;
@@ -295,7 +295,7 @@ module _ (scan : Scan) (claims : Claims) (c : claims ≡ scan.claims) where
   pub files-next : (entry from : Image) → AreLinksMended scan entry from → IsNextRebuilt entry claims from
   files-next entry from links = record { holds = links.holds; claimed = subst (λ (cs : Claims). IsClaimsOf cs (flat_map words_of (kept entry))) (sym c) links.scanned.claims }
 
-  -- and then the rest
+  -- the files are recovered, and the rest is next
   pub finished-next : (entry from image : Image) → AreLinksMended scan entry from → AreOnlyKeptLeft entry from image → IsNextFinished scan entry image
   finished-next entry from image links left = record {
     links = record { scanned = links.scanned; holds = left.holds; others = left.others scan.bare.items links.others };

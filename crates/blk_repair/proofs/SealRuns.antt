@@ -203,7 +203,7 @@ all-sealed entry image (w ∷ words) holds of =
           }),
     )
 
--- so the checksums of these nodes and records match or are absent at each word
+-- the checksums of these nodes and records match or are absent at each word
 pub seals-check : (entry image : Image) (words : List ℕ) → IsNextSealed entry words image → Along (AllCheck words) image (seals_steps words image)
 seals-check entry image words next =
     let H : Image → Type 0 = HasMendedLinksOf entry in

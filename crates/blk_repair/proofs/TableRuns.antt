@@ -105,7 +105,7 @@ module _ (old now : Told) (records ends : List ℕ) (whole : List Bool) (bucket 
       by_files None none = absurd (no_some (sym (are.silent none) ∙ here))
       by_files (Some from) there = (from, next-is old now records ends whole bucket front own told from inside own-is told-is read (scanned from there) (are.mended from there (scanned from there)) image here)
 
-  -- so the checksums of its records match or are absent
+  -- the checksums of the bucket's records match or are absent
   pub own-check : ForSome old.files (AreChainsScanned records ends whole) → ForSome now.files (AllCheck own)
   own-check scanned image here =
       let next : (from : Image) × IsNextBucket from bucket front own told image = has-next scanned image here in

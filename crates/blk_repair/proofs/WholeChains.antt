@@ -14,6 +14,6 @@ use Rattle.blk_repair.specs.Chains.{IsNextBucket}
 whole-still : (from image : Image) (bucket : ℕ) (words : List ℕ) → chain (store_of image) bucket ≡ chain (store_of from) bucket → IsChain (store_of from) bucket words → IsChain (store_of image) bucket words
 whole-still from image bucket words same is = chain-back (store_of image) bucket words (same ∙ chain-is (store_of from) bucket words (no-record from) is)
 
--- so a bucket that is reported whole needs no step
+-- a bucket that is reported whole needs no step
 pub whole-steps : (from : Image) (bucket front : ℕ) (words : List ℕ) (image : Image) → IsNextBucket from bucket front words true image → chain_steps bucket words image ≡ []
 whole-steps from bucket front words image is = none-to_link image bucket words (whole-still from image bucket words (is.next.up_to.as_before bucket (omega arith)) (is.is_whole refl))

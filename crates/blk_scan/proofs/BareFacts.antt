@@ -100,7 +100,7 @@ kept_good image (k ∷ ks) (s ∷ said) w are is = ⊎_elim
     (λ (x : (eqb k.contents w ≡ false) × _). kept_good image ks said w are.1 (rw x.0 at is))
     (eqb_tells k.contents w)
 
--- so the records of what is kept are valid among the block files
+-- the records of what is kept are valid among the block files
 pub entries_stand : (files : BlockFiles) (image : Image) (said : List Loaded) (words : List ℕ) → Agrees files image → AreShown image (kept image) said → words ≡ map (λ (s : Loaded). s.entry) said → All (λ w. is_record_among files w ≡ true) words
 entries_stand files image said words agrees are words_are =
     subst (All (λ w. is_record_among files w ≡ true)) (sym words_are)

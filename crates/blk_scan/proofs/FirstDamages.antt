@@ -34,7 +34,7 @@ index-formed image well = by_first (first_index_damage image) refl where
   by_first None is = refl
   by_first (Some damage) is = sym (first-before image damage is) ∙ well
 
--- and none of the block files
+-- no check of the block files fails of a well-formed folder
 pub blocks-formed : (image : Image) → IsWellFormed image → first_block_damage image ≡ None
 blocks-formed image well = sym (first-behind image (index-formed image well)) ∙ well
 
@@ -54,7 +54,7 @@ looked-as x y image same = subst (λ (s : Start). LooksAs (Ok s) image) same
 abbrev pub IsFirst : Told → Met → Type 0
 IsFirst told damage = ForSome told.files (IsDamagedBy (damage_of damage))
 
--- so it is where a look finds it
+-- a failed check that a look finds is the first of an initialized folder
 pub looked-first : (r : Result Start Fault) (told : Told) → ForSome told.files (LooksAs r) → IfDamaged r (IsFirst told)
 looked-first (Ok start) told looks = tt
 looked-first (Err fault.Device) told looks = tt

@@ -20,7 +20,7 @@ use Rattle.blk_scan.specs.Faults.{IsBlocksDamage, IsScanDamage}
 abbrev pub IsFirstIfWhole : Told → Damage → Type 0
 IsFirstIfWhole told damage = ForSome told.files (λ image. HasWholeIndex image → first_block_damage image ≡ Some (damage_of damage))
 
--- so it is where the block files can't be loaded
+-- where the block files can't be loaded, the error is the first check of a header that fails
 pub loading_first : (r : Result BlockFiles Fault) (told : Told) → ForSome told.files (LoadsAs r) → IfDamaged r (IsFirstIfWhole told)
 loading_first (Ok files) told loads = tt
 loading_first (Err fault.Device) told loads = tt

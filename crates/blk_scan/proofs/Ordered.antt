@@ -44,7 +44,7 @@ module _ (image : Image) (said : List Loaded) (given : ℕ → Option (Result sh
       go (Some (Err why)) (Some (outcome.Kept i)) is ks ss more = absurd is
       go (Some (Err why)) (Some (outcome.Dropped reason)) is ks ss more = more
 
-  -- and so it is with those that are dropped
+  -- the dropped nodes in the order of the walk are those that are dropped of it
   pub dropped_told : (nodes : List ℕ) (outcomes : List (Option Outcome)) → AllZip (λ w o. IsOutcomeIf image said (given w) o) nodes outcomes
       → map dropped_by_told (dropped_in nodes outcomes) ≡ filter_map (λ node. dropped_of node (given node)) nodes
   dropped_told [] [] all = refl

@@ -119,7 +119,7 @@ module _ (keep : ℕ → Bool) (records ends : List ℕ) (closed : List Bool) wh
     next_end : new.ends.items ≡ old.ends.items ++ length new.records.items ∷ []
     next_whole : new.whole.items ≡ old.whole.items ++ (is_closed && (length new.records.items == length old.records.items + length (records_of records ends n))) ∷ []
 
-  -- the same, written out
+  -- the chains with one bucket more, written out
   pub next_is : (n : ℕ) (old new : KeptChains) (own : List ℕ) (is_closed : Bool) → own ≡ records_of records ends n → is_closed ≡ slice_index_or closed n false
       → new.records.items ≡ old.records.items ++ filter keep own → new.ends.items ≡ old.ends.items ++ length new.records.items ∷ []
       → new.whole.items ≡ old.whole.items ++ (is_closed && (length new.records.items == length old.records.items + length own)) ∷ [] → IsNext n old new
@@ -272,7 +272,7 @@ module _ (image : Image) (reached : Reached) (chains : KeptChains) (keep : ℕ �
 pub packed_among : (P : ℕ → Type 0) (keep : ℕ → Bool) (records ends : List ℕ) (closed : List Bool) (n : ℕ) (chains : KeptChains) → ArePacked keep records ends closed n chains → All P records → All P chains.records.items
 packed_among P keep records ends closed n chains packed all = subst (All P) (sym packed.all) (All-filter keep P (take (begin_of ends n) records) (All-take P (begin_of ends n) records all))
 
--- the same of lists that are handed out
+-- the lists that are handed out are packed so
 pub packed_of : (keep : ℕ → Bool) (reached : Reached) (records ends : List ℕ) (closed : List Bool) (chains : KeptChains) → records ≡ reached.words.items → ends ≡ reached.ends.items → closed ≡ reached.closed.items
     → ArePacked keep records ends closed 65536 chains → ArePacked keep reached.words.items reached.ends.items reached.closed.items 65536 chains
 packed_of keep reached records ends closed chains records_are ends_are closed_are packed =

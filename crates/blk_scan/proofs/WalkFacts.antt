@@ -33,7 +33,7 @@ few_walked : (list : ListView) → length (walk list) ≤ 131072
 unfolding walk
 few_walked list = few_from list.checks list.next list.prev 131072 [] list.head list.head
 
--- so all walked nodes of an image are taken
+-- all walked nodes of an image are taken, as they are few
 pub all_taken : (image : Image) (nodes : List ℕ) → nodes ≡ completed_walk image → take 131072 nodes ≡ completed_walk image
 all_taken image nodes is = take_all 131072 nodes (subst (λ (ns : List ℕ). length ns ≤ 131072) (sym is) (few_walked (completed_list (list_of image)))) ∙ is
 

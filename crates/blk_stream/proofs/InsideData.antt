@@ -94,7 +94,7 @@ words_bytes f p bs image =
 abbrev pub at : Image → ℕ → ℕ → ℕ
 at image w k = byte image (data_file w) (data_start w + k)
 
--- so many bytes of it are there
+-- so many bytes of the data of an address are there
 abbrev pub HasData : Image → ℕ → ℕ → Type 0
 HasData image w n = data_start w + n ≤ length_of image (data_file w)
 
@@ -226,7 +226,7 @@ here_data from w old size offset cut bytes made is =
         (cases_lt k (offset + length bytes)))
         (cases_lt k offset)
 
--- the same of data whose old bytes are those of another address
+-- the data is the list after the write, where the old bytes are those of another address
 pub moved_data : (from last : Image) (u w old size offset : ℕ) (cut : Bool) (bytes : List ℕ) → size ≡ size_after cut old offset (length bytes)
     → ((k : ℕ) → k < offset → k < old → at last w k ≡ at from u k)
     → ((k : ℕ) → k < offset → old ≤ k → at last w k ≡ 0)

@@ -135,7 +135,7 @@ room_within w old size offset fits low =
     (cases_Bool (nat_le offset old))))
     (cases_Bool (kind_of w == external))
 
--- so at each moment of both nothing but the data differs
+-- at each moment of making space and writing nothing but the data differs
 pub here_outside : (from : Image) (w old size offset : ℕ) (bytes : List ℕ) → (kind_of w ≢ external → size ≤ byte_size w) → offset + length bytes ≤ size → Along (SameOutside (data_of w) from) from (here_steps w old size offset bytes)
 here_outside from w old size offset bytes fits few =
     let P : Image → Type 0 = SameOutside (data_of w) from in
@@ -217,7 +217,7 @@ sealed_within record_bytes entry i size kind =
     (within_both A (either N nothing) S (within_left A (record_word entry 92))
     (within_both N nothing S seal (nothing_within S)))
 
--- Both.
+-- What the write of the data and the update of the size touch together.
 
 module _ (files : BlockFiles) (entry i w old size offset : ℕ) (bytes : List ℕ) (kind : kind_of entry ≡ blocks_256) (stands : stands_among files entry ≡ true) (small : i < 3)
     (inside : IsInside files w 0 size) (few : offset + length bytes ≤ size) (apart : kind_of w ≢ external → ShareNoBlock entry w) (from : Image) (agrees : Agrees files from) (good : RecordChecks entry from) where

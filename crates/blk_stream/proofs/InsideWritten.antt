@@ -70,7 +70,7 @@ module _ (files : BlockFiles) (entry i w size : ℕ) (kind : kind_of entry ≡ b
       let c = off_word 92 k (omega arith) high in
       rw (a, c) refl
 
-  -- so the data stays where only the words of the record change
+  -- the data stays where only the words of the record change
   pub data_stays : (from image : Image) → SameOutside (size_words entry i) from image → data_at image w 0 size ≡ data_at from w 0 size
   data_stays from image same =
       same-range size (data_start w + 0) (byte image (data_file w)) (byte from (data_file w))

@@ -119,7 +119,7 @@ no_number : external_number 0 ≡ 0
 unfolding external_number
 no_number = refl
 
--- its number is not 0
+-- the number of a new external file is not 0
 nothing_apart : (files : BlockFiles) (w : ℕ) (from made : Image) → w ≢ 0 → IsNewPlace files w from made → ShareNoData 0 w
 nothing_apart files w from made some placed = record {
   files = λ none kind same. numbered kind (sym same ∙ no_number);

@@ -49,7 +49,7 @@ leaving_none = refl
 pub map_only : (w : ℕ) (from image : Image) → FreesInProgress w from image → SameOutside (map_of (file_selector w)) from image
 map_only w from image h = h.marks.same
 
--- and so where the process crashed while they are freed, or where they are free
+-- where the process crashed during a free, or where that is done, only map, counters and updating of the file differ
 pub freed_only : (w : ℕ) (from image : Image) → FreesOrStops w from image → SameOutside (map_of (file_selector w)) from image
 freed_only w from image h = ⊎_elim (λ (midst : FreesInProgress w from image). map_only w from image midst) (λ (last : FreesAtLast w from image). last.freed.same) h
 

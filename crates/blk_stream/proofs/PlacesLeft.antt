@@ -148,7 +148,7 @@ module _ (entry i old size word : ℕ) (from : Image) where
           gone = λ kind. freed.gone kind;
         }
 
--- and the old place may be freed as before
+-- the old place may be freed as before
 pub named_free : (entry i old : ℕ) (from : Image) (files : BlockFiles) (mid : Image) → Agrees files from → SameOutside (stream_words entry i) from mid → (kind_of old ≢ external → stands_among files old ≡ true) → MayBeFreed old from → MayBeFreed old mid
 named_free entry i old from files mid agrees same there may blocky = freed_still (stream_words entry i) files old from mid (words_spare entry i) same agrees (there blocky) (may blocky)
 

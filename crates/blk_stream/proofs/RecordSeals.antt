@@ -56,11 +56,11 @@ shown_small image w kind small good =
     ∙ entry_checks-prefix (record_at image w) (subst (λ (n : ℕ). AreSmall (take n (record_at image w))) s small) (omega (arith, s, length-record w image))
     ∙ subst (λ (n : ℕ). checks n (record_at image w) ≡ true) s good
 
--- so it is where its bytes are those of a record that are small
+-- a record with the small bytes of one whose checksum matches or is absent has such a checksum in the view
 pub shown_same : (from image : Image) (w : ℕ) → kind_of w ≡ blocks_256 → AreSmall (record_at from w) → record_at image w ≡ record_at from w → RecordChecks w image → entry_checks (entry_at image w) ≡ true
 shown_same from image w kind small same good = shown_small image w kind (small-take (seal_place w) (record_at image w) (subst AreSmall (sym same) small)) good
 
--- and at each word of an update of it
+-- in the view the record's checksum matches or is absent at each word of an update of the record
 pub shown_midst : (from image : Image) (w : ℕ) (changes : List (ℕ × ℕ)) → kind_of w ≡ blocks_256 → AreSmall (record_at from w) → IsMidUpdate from w changes image → entry_checks (entry_at image w) ≡ true
 shown_midst from image w changes kind small moment =
     shown_small image w kind (subst AreSmall (sym moment.fields) (small-take (seal_place w) (with_words (take moment.made changes) (record_at from w)) (small-words (take moment.made changes) (record_at from w) small))) moment.checks

@@ -291,7 +291,7 @@ pub bytes_long : (image : Image) (entry i : ℕ) → length (stream_bytes image 
 unfolding stream_bytes
 bytes_long image entry i = length-range (size_word image entry i) _ _
 
--- these bytes by the words that were read
+-- the bytes of a stream by the words that were read
 pub bytes_at : (image : Image) (entry i size w : ℕ) → size ≡ size_word image entry i → w ≡ address_word image entry i → stream_bytes image entry i ≡ data_at image w 0 size
 unfolding stream_bytes
 bytes_at image entry i size w is word = λ j. data_at image (sym word j) 0 (sym is j)

@@ -51,7 +51,7 @@ off_within F G f k within off = by_test (F.bytes f k) (within.bytes f k)
 
 -- The record.
 
--- it has its bytes where blocks keep theirs
+-- the record has its bytes where blocks keep theirs
 pub record_grown : (files : BlockFiles) (from image : Image) (entry : ℕ) → kind_of entry ≡ blocks_256 → stands_among files entry ≡ true → Agrees files from → KeepsBlocks from image → record_at image entry ≡ record_at from entry
 unfolding record_at
 record_grown files from image entry kind stands agrees keeps =
@@ -216,7 +216,7 @@ module _ (files : BlockFiles) (entry i size offset : ℕ) (cut : Bool) (bytes : 
       pub filled_headers : (image : Image) → SameOutside (data_at_place w) made image → KeepsHeaders from image
       filled_headers image same = headers-next from made image placed.makes.keeps.headers (place_headers w made image same)
 
-      -- it is being filled
+      -- the new place is being filled
       pub filling_writes : (image : Image) → SameOutside (data_at_place w) made image → RecordChecks entry image → Writes image
       filling_writes image same good =
           let all = filled_same image same in
@@ -272,7 +272,7 @@ module _ (files : BlockFiles) (entry i size offset : ℕ) (cut : Bool) (bytes : 
           pub left_written : (image : Image) → SameOutside E filled image → data_at image w 0 size ≡ stream_after cut (stream_bytes from entry i) offset bytes
           left_written image left = data_left E w size filled image both_off left ∙ written
 
-          -- and where there was one, it is freed then
+          -- where there was an old place, it is freed once the record names the new one
           pub leaving_writes : (image : Image) → LeavesPlaceInProgress entry i old size w filled image → Writes image
           leaving_writes image leaves = record {
             new = w;

@@ -101,7 +101,7 @@ front_inside files size w n some few e less =
     right : (a b : Bool) → a ≡ false → (a || b) ≡ true → b ≡ true
     right a b none h = rw none at h
 
--- so are other bytes of it
+-- other bytes of data of few bytes lie inside its blocks too
 pub part_inside : (files : BlockFiles) (size w at n : ℕ) → 0 < size → size ≤ 16384 → stores files size w ≡ true → at + n ≤ size → IsInside files w at n
 part_inside files size w at n some few e less =
     let all = front_inside files size w (at + n) some few e less in

@@ -20,7 +20,7 @@ pub stored_same : (image : Image) (loaded : Loaded) (key : List ℕ) → IsKeyOf
 unfolding stored_key
 stored_same image loaded key is = ap₂ (by_place (store_of image) loaded.entry) (sym is.key_len) (sym is.long_key) ∙ is.stored
 
--- so it is by other words that say the same of the key
+-- a key is the same by other words that say the same of it
 pub stored_by_words : (image : Image) (loaded : Loaded) (words : RecordWords) (key : List ℕ) → words.key_len ≡ loaded.key_len → words.long_key ≡ loaded.long_key → IsKeyOf image loaded key → stored_key (store_of image) loaded.entry (fields_said words) ≡ Some key
 unfolding stored_key
 stored_by_words image loaded words key len long is = ap₂ (by_place (store_of image) loaded.entry) (len ∙ sym is.key_len) (long ∙ sym is.long_key) ∙ is.stored

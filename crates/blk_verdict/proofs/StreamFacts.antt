@@ -89,7 +89,7 @@ stored_bytes image size w bytes some e =
     let there : stored_at image size w ≡ Some (data_at image w 0 size) = stored_there image size w some s.storage s.stands_there long in
     cc
 
--- and has its size
+-- stored data has its size
 pub stored_length : (image : Image) (size w : ℕ) (bytes : List ℕ) → stored_at image size w ≡ Some bytes → length bytes ≡ size
 unfolding stored_at
 stored_length image zero w bytes e = none_length bytes e

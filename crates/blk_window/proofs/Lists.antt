@@ -101,7 +101,7 @@ module _ {V : Type 0} where
       ∙ ap (λ o. option_map_or (λ e. e ∷ remove_entry (nat_eq k) (s.front ++ (k, v) ∷ s.behind)) o (s.front ++ (k, v) ∷ s.behind)) (lookup_entry-split k s.front s.behind v s.none)
       ∙ ap (λ l. (k, v) ∷ l) (remove_entry-split k s.front s.behind v s.none)
 
-  -- and changed there
+  -- the slots with one of them moved to the front and changed there
   pub moved_and_set : (k : ℕ) (es : List (ℕ × V)) (v w : V) (s : Split k es v) → set_value (nat_eq k) (moved k es) w ≡ (k, w) ∷ (s.front ++ s.behind)
   moved_and_set k es v w s = ap (λ l. set_value (nat_eq k) l w) (moved-split k es v s) ∙ set_value-split k [] (s.front ++ s.behind) v w refl
 

@@ -20,7 +20,7 @@ module _ (g : given.Over) (c : goal.After-mend_rest g) (from : Image) (there : (
   first : RepairBreaksOff (g.F.Folder.told c.args.folder.now) (g.F.Folder.told c.mend_store.new.folder) (IsMidRepair entry)
   first = c.mend_store.ensures.stops from there entry (files-next c.args.scan.now c.claims.result.now c.claims.ensures entry from links)
 
-  -- and the rest is next
+  -- the files were repaired, and the rest is next
   handed : ForSome (g.F.Folder.told c.mend_store.new.folder).files (IsNextFinished c.args.scan.now entry)
   handed mid here =
       finished-next c.args.scan.now c.claims.result.now c.claims.ensures entry from mid links (c.in_ok-mend_store.ensures.mended from there entry (files-next c.args.scan.now c.claims.result.now c.claims.ensures entry from links) mid here)
