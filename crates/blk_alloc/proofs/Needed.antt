@@ -7,13 +7,13 @@ use Rattle.spec_image.specs.Bytes.{content, range_at}
 use Rattle.spec_image.specs.Image.{Image, File, byte, bytes_of, length_of, same_file}
 use Rattle.spec_image.specs.Steps.{TrailStep, Word, applied, after, words}
 use Rattle.spec_image.specs.Footprint.{SameOutside, range}
-use Rattle.spec_image.specs.Told.{Told, Along, AppliesPrefix, IsQuiet, PassesTo, Until}
+use Rattle.spec_image.specs.Told.{Told, Along, AppliesPrefix, IsQuiet, PassesTo, Until, is_quiet}
 use Rattle.spec_image.proofs.Cuts.{words-four}
 use Rattle.spec_image.proofs.Images.{bytes_of-written}
 use Rattle.spec_image.proofs.Splices.{content-spliced_inside}
 use Rattle.spec_image.proofs.Footprints.{outside-refl, outside-trans, outside_wider, outside_write, range_within}
 use Rattle.spec_image.proofs.Words.{content-range, range-is}
-use Rattle.spec_image.proofs.Runs.{grows_none, grows_then, passes_end, quiet_prefix, quiet-append, some_inj, until_prefix, until-append, until_weaker2}
+use Rattle.spec_image.proofs.Runs.{grows_none, grows_then, only_here, passes_end, quiet_prefix, quiet-append, some_inj, until_prefix, until-append, until_weaker2}
 use Rattle.blk_alloc.specs.Mending.{AreNeeded, IsPrefixWritten, AreBytesWritten, KeepsLength, PassesNeeded}
 
 needed_prefix : (s t : List TrailStep) (image : Image) → AreNeeded image (s ++ t) → AreNeeded image s
@@ -110,11 +110,11 @@ module _ (f : File) (place : ℕ) (bytes : List ℕ) (n : ℕ) (long : length by
   }
 
 -- a word that differs is written by a step that is needed
-module _ (f : File) (place : ℕ) (old new : List ℕ) (four : length new ≡ 4) (differ : old ≡ new → ⊥) where
+module _ (f : File) (place : ℕ) (old new : List ℕ) (four : length new ≡ 4) (differ : old ≡ new → ⊥) (quiet : is_quiet (Word f place new) ≡ true) where
   pub word_needed : {a b : Told} (from : Image) → a.files ≡ Some from → length old ≡ 4 → place % 4 ≡ 0 → place + 4 ≤ length_of from f → ((i : ℕ) → i < 4 → content old i ≡ byte from f (place + i)) → AppliesPrefix a b (words f place new)
       → PassesNeeded a b (λ image. (image ≡ from) ⊎ AreBytesWritten f place new 4 from image)
   word_needed {a} {b} from there long aligned inside stands part =
-      needed_part (λ image. (image ≡ from) ⊎ AreBytesWritten f place new 4 from image) from there (subst (AppliesPrefix a b) (one_step f place new four aligned) part) tt
+      needed_part (λ image. (image ≡ from) ⊎ AreBytesWritten f place new 4 from image) from there (subst (AppliesPrefix a b) (one_step f place new four aligned) part) (only_here (is_quiet (Word f place new)) quiet tt)
       (inl refl, inr (written_step f place new 4 four from inside))
       ((λ same. differ (sym (range_content 4 place (byte from f) old long stands) ∙ subst (λ (k : ℕ). range_at (byte from f) place k ≡ new) four same)), tt)
 

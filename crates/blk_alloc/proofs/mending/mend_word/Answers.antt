@@ -33,7 +33,7 @@ returns-clause-done g c =
 pub returns-clause-stops : goal.returns-clause-stops
 returns-clause-stops g c from there stands =
     word_needed (Block c.args.file) c.args.at c.args.old.now c.args.new.now c.requires.new_word
-    (λ same. clash (sym (sym c.eq.ensures ∙ c.if-eq.false) ∙ (bytes_eq-Decides c.args.old.now c.args.new.now).1 same))
+    (λ same. clash (sym (sym c.eq.ensures ∙ c.if-eq.false) ∙ (bytes_eq-Decides c.args.old.now c.args.new.now).1 same)) refl
     from there c.requires.old_word c.requires.aligned (c.requires.inside from there) stands c.write_at.ensures.prefix
   where
     clash : false ≡ true → ⊥
