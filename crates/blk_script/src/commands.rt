@@ -1,10 +1,10 @@
 // Commands are printed as lines.
-ghost use Rattle.std.specs.Prelude.{◌≡◌, ◌<◌, ◌++◌, List, [], ◌∷◌, if◌then◌else◌, codes, map, OnOk, OnErr};
+ghost use Rattle.std.specs.Prelude.{◌≡◌, ◌<◌, ◌++◌, List, [], ◌∷◌, map, OnOk, OnErr};
 ghost use Rattle.std.specs.Option.{option_map};
 ghost use Rattle.spec_image.specs.Told.{Rises};
 ghost use Rattle.blk_io.specs.Streams.{Appends, GoesOn};
-ghost use Rattle.blk_model.specs.Request.{request_of};
-ghost use Rattle.blk_script.specs.Spelling.{number_text, key_text, data_text, field_text, line_of};
+ghost use Rattle.blk_model.specs.Request.{request_of, to_read, to_write, to_size, to_sparse_write};
+ghost use Rattle.blk_script.specs.Spelling.{number_text, key_text, field_text, fields_for, line_of};
 
 use crate::print::Field::{self, Data, Key, Number, Word};
 use crate::print::print_fields;
@@ -27,20 +27,20 @@ pub fn print_line<K: Sink>(out: &mut K, command: &Command) -> Result<(), Failed>
             stream,
             offset,
             count,
-        } => print_fields(out, &stream_range_fields(handle, stream, offset, count)),
+        } => print_fields(out, &fields_to_read(handle, stream, offset, count)),
         Command::Write {
             handle,
             stream,
             offset,
             cut,
             bytes,
-        } => print_fields(out, &stream_data_fields(handle, stream, offset, cut, bytes)),
-        Command::Size { handle, stream } => print_fields(out, &size_fields(handle, stream)),
+        } => print_fields(out, &fields_to_write(handle, stream, offset, cut, bytes)),
+        Command::Size { handle, stream } => print_fields(out, &fields_to_size(handle, stream)),
         Command::SparseWrite {
             handle,
             offset,
             bytes,
-        } => print_fields(out, &data_fields(handle, offset, bytes)),
+        } => print_fields(out, &fields_to_write_sparse(handle, offset, bytes)),
         Command::SparseRead {
             handle,
             offset,
@@ -61,21 +61,21 @@ pub fn print_line<K: Sink>(out: &mut K, command: &Command) -> Result<(), Failed>
     }
 }
 
-// The fields of a line with a handle and a key.
+// The fields of a command on a handle and a key.
 fn key_fields<'a>(word: &'a str, handle: u16, key: &'a [u8]) -> [Field<'a>; 3]
     ensures { map field_text result ≡ word.now ∷ number_text handle ∷ key_text key.now ∷ [] }
 {
     [Word(word), Number(handle.into()), Key(key)]
 }
 
-// The fields of the length of a stream.
-fn size_fields<'a>(handle: u16, stream: u8) -> [Field<'a>; 3]
-    ensures { map field_text result ≡ codes "size" ∷ number_text handle ∷ number_text stream ∷ [] }
+// The fields of the command that asks for the length of a stream.
+fn fields_to_size<'a>(handle: u16, stream: u8) -> [Field<'a>; 3]
+    ensures { map field_text result ≡ fields_for (to_size handle stream) }
 {
     [Word("size"), Number(handle.into()), Number(stream.into())]
 }
 
-// The fields of a line with a handle and a range of its sparse data.
+// The fields of a command on a range of sparse data.
 fn range_fields<'a>(word: &'a str, handle: u16, offset: u64, count: u64) -> [Field<'a>; 4]
     ensures { map field_text result ≡ word.now ∷ number_text handle ∷ number_text offset ∷ number_text count ∷ [] }
 {
@@ -88,8 +88,8 @@ fn range_fields<'a>(word: &'a str, handle: u16, offset: u64, count: u64) -> [Fie
 }
 
 // The fields of a write of sparse data.
-fn data_fields<'a>(handle: u16, offset: u64, bytes: &'a [u8]) -> [Field<'a>; 4]
-    ensures { map field_text result ≡ codes "swrite" ∷ number_text handle ∷ number_text offset ∷ data_text bytes.now ∷ [] }
+fn fields_to_write_sparse<'a>(handle: u16, offset: u64, bytes: &'a [u8]) -> [Field<'a>; 4]
+    ensures { map field_text result ≡ fields_for (to_sparse_write handle offset bytes.now) }
 {
     [
         Word("swrite"),
@@ -100,8 +100,8 @@ fn data_fields<'a>(handle: u16, offset: u64, bytes: &'a [u8]) -> [Field<'a>; 4]
 }
 
 // The fields of a read of a stream.
-fn stream_range_fields<'a>(handle: u16, stream: u8, offset: u64, count: u64) -> [Field<'a>; 5]
-    ensures { map field_text result ≡ codes "read" ∷ number_text handle ∷ number_text stream ∷ number_text offset ∷ number_text count ∷ [] }
+fn fields_to_read<'a>(handle: u16, stream: u8, offset: u64, count: u64) -> [Field<'a>; 5]
+    ensures { map field_text result ≡ fields_for (to_read handle stream offset count) }
 {
     [
         Word("read"),
@@ -113,14 +113,14 @@ fn stream_range_fields<'a>(handle: u16, stream: u8, offset: u64, count: u64) -> 
 }
 
 // The fields of a write of a stream, which ends there where `cut` is true.
-fn stream_data_fields<'a>(
+fn fields_to_write<'a>(
     handle: u16,
     stream: u8,
     offset: u64,
     cut: bool,
     bytes: &'a [u8],
 ) -> [Field<'a>; 5]
-    ensures { map field_text result ≡ (if cut then codes "cut" else codes "write") ∷ number_text handle ∷ number_text stream ∷ number_text offset ∷ data_text bytes.now ∷ [] }
+    ensures { map field_text result ≡ fields_for (to_write handle stream offset cut bytes.now) }
 {
     [
         Word(if cut { "cut" } else { "write" }),
