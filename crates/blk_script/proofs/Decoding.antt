@@ -1,15 +1,16 @@
 -- Data and keys that are decoded into a buffer.
-use Rattle.std.proofs.Common.{◌≡◌, ℕ, ◌+◌, ◌/◌, ◌%◌, ◌<◌, ◌≤◌, Bool, true, false, cond, List, [], ◌∷◌, ◌++◌, Result, Ok, Err, length, take, refl, sym, ap, ◌∙◌, arith, append_assoc}
+use Rattle.std.proofs.Common.{◌≡◌, ℕ, ◌+◌, ◌*◌, ◌/◌, ◌%◌, ◌<◌, ◌≤◌, Bool, true, false, cond, List, [], ◌∷◌, ◌++◌, Result, Ok, Err, Option, Some, None, unwrap_or, length, take, refl, sym, ap, ◌∙◌, arith, append_assoc}
 use Rattle.std.specs.Bool.{◌==◌}
-use Rattle.std.specs.List.{slice_set}
+use Rattle.std.specs.List.{slice_set, slice_index}
 use Rattle.std.specs.Result.{MatchResult}
 use Rattle.std.specs.Str.{bytes_eq}
 use Rattle.std.specs.Prelude.{codes}
-use Rattle.std.proofs.lemmas.Bool.{eq-eqb, ne_eqb, le-ltb, lt-ltb, cond-true, cond-false}
+use Rattle.std.proofs.lemmas.Bool.{eq-eqb, eqb-true, ne_eqb, le-ltb, lt-ltb, cond-true, cond-false, agree_below_at}
 use Rattle.std.proofs.lemmas.Grind.{take-set_at}
-use Rattle.hex.specs.Hex.{decode_of, decode_sized, decode_pairs}
+use Rattle.hex.specs.Hex.{decode_of, decode_sized, decode_pairs, digit_or_error, hex_digit_value, pair_value, value_at}
 use Rattle.hex.specs.declared.error.FromHexError.{FromHexError}
 use Rattle.hex.specs.declared.error.FromHexError.TheVariants.{OddLength, InvalidStringLength}
+use Rattle.blk_script.specs.declared.data.TheConstants.{DIGIT_VALUES}
 use Rattle.blk_script.specs.declared.fault.LineFault.TheVariants as fault
 use Rattle.blk_script.specs.Fields.{data_field, decoded}
 
@@ -63,3 +64,19 @@ decoded_err field n answer u why out half says err = was_err (decode_of field) a
 pub prefix_more : (buffer all left next : List ℕ) (n byte : ℕ) → take n buffer ++ left ≡ all → left ≡ byte ∷ next → n < length buffer → take (n + 1) (slice_set buffer n byte) ++ next ≡ all
 prefix_more buffer all left next n byte so step within =
     ap (λ (front : List ℕ). front ++ next) (take-set_at buffer n (n + 1) byte refl within) ∙ append_assoc (take n buffer) (byte ∷ []) next ∙ ap (λ (rest : List ℕ). take n buffer ++ rest) (sym step) ∙ so
+
+-- what is read from the table of digits
+pub table_value : (byte : ℕ) → byte < 256 → slice_index DIGIT_VALUES byte ≡ unwrap_or (hex_digit_value byte) 255
+table_value byte small =
+    eqb-true (slice_index DIGIT_VALUES byte) (unwrap_or (hex_digit_value byte) 255) (agree_below_at (λ b. slice_index DIGIT_VALUES b == unwrap_or (hex_digit_value b) 255) (λ b. true) 256 byte refl small)
+
+value_some : (o : Option ℕ) (c i v : ℕ) → v ≡ unwrap_or o 255 → v ≤ 15 → digit_or_error c i o ≡ Ok v
+value_some (Some w) c i v e small = ap Ok (sym e)
+value_some None c i v e small = absurd (omega arith)
+
+-- two digits of which the table has the values
+pub pair_of_values : (high low i h l : ℕ) → h ≡ unwrap_or (hex_digit_value high) 255 → l ≡ unwrap_or (hex_digit_value low) 255 → h ≤ 15 → l ≤ 15 → pair_value high low i ≡ Ok (h * 16 + l)
+pair_of_values high low i h l eh el hs ls =
+    let ha : value_at high i ≡ Ok h = value_some (hex_digit_value high) high i h eh hs in
+    let hb : value_at low (i + 1) ≡ Ok l = value_some (hex_digit_value low) low (i + 1) l el ls in
+    rw (ha, hb) refl

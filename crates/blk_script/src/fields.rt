@@ -3,6 +3,7 @@ ghost use Rattle.std.specs.Prelude.{◌≡◌, ◌≤◌, ◌+◌, [], ◌∷◌
 ghost use Rattle.blk_script.specs.Fields.{is_space, line_fields, fields_left, length_left, AreFields, LacksFields, SplitsField};
 
 use crate::LineFault;
+use memchr::memchr;
 
 /// The fields of a line that are left; none after the last.
 #[derive(Clone, Copy)]
@@ -14,7 +15,7 @@ pub struct Fields<'l> {
 fn first_space(line: &[u8]) -> Option<usize>
     ensures { result ≡ position is_space line.now }
 {
-    line.iter().position(|byte| *byte == b' ')
+    memchr(b' ', line)
 }
 
 /// The first field of a line, and the others.
