@@ -1,4 +1,4 @@
--- The parts that a command covers: none, and what is pinned where some are.
+-- The parts in range of a command: none, and what is pinned where some are.
 use Rattle.std.proofs.Common.{◌≡◌, ℕ, ◌+◌, Bool, true, false, ◌||◌, List, [], ◌∷◌, refl, sym, subst, arith}
 use Rattle.std.specs.List.{list_any}
 use Rattle.spec_image.specs.Told.{Told}
@@ -18,11 +18,11 @@ none-more n = omega arith
 pub none-covered : NoPartsAreCovered
 none-covered state layout = record { lie = record { of_named = tt; nodes = λ item listed. refl }; bytes = none-more _; items = none-more _ }
 
--- what holds whatever is covered holds where nothing is
+-- what holds whatever parts are in range holds where none is
 pub for-none : (cache : Cache) (parts : Covered) (told : Told) (P : State → List Item → Type 0) → parts ≡ no_parts → ForCovered cache parts told P → ForKept (HoldsState cache) told (λ state. P state [])
 for-none cache parts told P is holds image there state k = holds image there state k [] (subst (AreCovered state k.layout []) (sym is) (none-covered state k.layout))
 
--- no main item is covered
+-- a main item is none of the parts in range
 main-uncovered : (state : State) (key : List ℕ) (covered : List Item) → AreOfNamed state covered → list_any (same_item (main key)) covered ≡ false
 main-uncovered state key [] named = refl
 main-uncovered state key (main other ∷ covered) named = absurd named.0
@@ -32,7 +32,7 @@ or-none : (a b : Bool) → b ≡ false → a ≡ (a || b)
 or-none true b e = refl
 or-none false b e = sym e
 
--- an item is pinned where a handle names its object, or where it is covered
+-- an item is pinned where the handles alone pin it, or where it is a part in range
 pub pinned-both : (state : State) (item : Item) (covered : List Item) → AreOfNamed state covered → is_pinned state covered item ≡ (is_pinned state [] item || list_any (same_item item) covered)
 pinned-both state (main key) covered named = or-none (is_pinned state [] (main key)) (list_any (same_item (main key)) covered) (main-uncovered state key covered named)
 pinned-both state (part key n) covered named = refl

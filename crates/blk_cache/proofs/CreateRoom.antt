@@ -54,7 +54,7 @@ left-behind i j list apart there =
     let z : ◌≡◌ {A = ℕ} (cond (same_item i j) 1 0) 0 = ap (λ (b : Bool). cond {A = ℕ} b 1 0) apart in
     omega (arith, c, z, there)
 
--- each listed item that need not stay is in an eviction unit that could be evicted
+-- each listed item that need not stay is in an eviction unit that could go
 goes : (stays : Item → Bool) (list : List Item) (item : Item) → 1 ≤ times item list → stays item ≡ false → is_out (groups_from_back stays list) item ≡ true
 unfolding groups_from_back
 goes stays [] item there free = let none : times item [] ≡ 0 = refl in absurd (omega (arith, there, none))
@@ -100,7 +100,7 @@ alike true false o e = e
 alike false true o e = sym e
 alike false false o e = refl
 
--- eviction units are evicted until there is enough, or all are
+-- eviction units go until there is enough, or all are out
 shortest-ends : (enough : List Group → Bool) (done groups : List Group) → (enough (shortest enough done groups) ≡ true) ⊎ (shortest enough done groups ≡ done ++ groups)
 shortest-ends enough done [] = inr (sym (append-nil done))
 shortest-ends enough done (group ∷ groups) = ⊎_elim
@@ -152,7 +152,7 @@ times-back : (item : Item) (list : List Item) → times item (reverse list) ≡ 
 times-back item list = sum_by-IsPermutation (λ i. cond (same_item item i) 1 0) list (reverse list) (IsPermutation-reverse list)
 
 module _ (state : State) (valid : IsValidState state) (covered : List Item) where
-  -- all eviction units that could be evicted
+  -- all eviction units that could go
   abbrev all : List Group
   all = groups_from_back (is_pinned state covered) (reverse state.uses)
 
@@ -163,7 +163,7 @@ module _ (state : State) (valid : IsValidState state) (covered : List Item) wher
       let back = times-back item state.uses in
       goes (is_pinned state covered) (reverse state.uses) item (omega (arith, one, listed, back)) free
 
-  -- what is covered of the parts of an object
+  -- the parts of an object that are in range
   abbrev pinned_parts : Object → List (ℕ × PartValue)
   pinned_parts o = filter (λ (p : ℕ × PartValue). list_any (same_item (part o.key p.0)) covered) o.parts
 
@@ -177,7 +177,7 @@ module _ (state : State) (valid : IsValidState state) (covered : List Item) wher
       let number : live_with state o.key ≡ Some n = first_with_found (main o.key) 0 n state.objects (ap (slot_has_item (main o.key)) here ∙ has_main o alive) (omega (arith, one)) ∙ ap Some (let e : 0 + n ≡ n = omega arith in e) in
       ap (λ (m : Option ℕ). option_map_or (is_named state) m false) number ∙ held
 
-  -- of one that a handle names the covered parts stay
+  -- of an object that a handle names the parts in range stay, and no others
   parts-kept : (n : ℕ) (o : Object) → object_at state n ≡ Some o → o.live ≡ true → is_named state n ≡ true → kept_parts all o ≡ pinned_parts o
   parts-kept n o here alive held =
       same_entries nat_cmp nat_cmp_total (λ x y e. nat_cmp-IsAntisymmetric x y e) (kept_parts all o) (pinned_parts o)

@@ -1,4 +1,4 @@
--- Eviction units that are evicted one after another: what has gone as the loop goes.
+-- Eviction units go one after another: what is out while the loop runs.
 use Rattle.std.proofs.Common.{◌≡◌, ◌⊎◌, ℕ, ◌+◌, ◌≤◌, Bool, true, false, not, ◌||◌, cond, List, [], ◌∷◌, ◌++◌, length, map, Option, Some, None, Result, Ok, Err, refl, sym, ap, subst, ◌∙◌, arith, inl, inr, append_assoc, append-nil, ⊎_elim}
 use Rattle.std.specs.Option.{ForSome, option_map}
 use Rattle.std.specs.List.{AllByRecursion, filter, flat_map}
@@ -44,7 +44,7 @@ use Rattle.blk_evict.proofs.RoomCounts.{counted-less}
 use Rattle.blk_evict.proofs.RoomGroups.{covered-one, last-next, nothing-more, of-named-stay, others-next, pinned-before, without-none}
 use Rattle.blk_evict.proofs.RoomTexts.{appends-after, appends-longer, none-printed, printed-on}
 
--- ---- what stays after the eviction unit that is evicted
+-- ---- what stays once an eviction unit is out
 
 clash : true ≡ false → ⊥
 clash h = cc
@@ -114,7 +114,7 @@ pinned-next state layout there covered found named last same =
       next = last.next ∙ ap (λ (place : Item → ℕ). first_node_of (map place at.rest)) (sym same);
     }
 
--- what is covered lies where it lay
+-- the parts in range lie where they lay
 pub lie-next : (state : State) (layout there : Layout) (covered front : List Item) (item : Item) (behind : List Item) (parts : Covered) → LieCovered state layout covered parts → MayGo state front item behind → there.place ≡ layout.place → LieCovered (without (group_for item front ∷ []) state) there covered parts
 lie-next state layout there covered front item behind parts lie goes same = record {
   of_named = of-named-stay state covered front item behind lie.of_named goes;
@@ -142,7 +142,7 @@ text-both first others = ap (flat_map evicted_line) (flat_map-append items_of_gr
 
 -- ---- the loop
 
--- a cache keeps a state, whose items are pinned from a node on, where parts are covered
+-- a cache keeps a state with parts in range, in which the items are pinned from a node on
 pub record KeepsFrom (cache : Cache) (state : State) (covered : List Item) (parts : Covered) (behind : Option ℕ) (image : Image) : Type 0 where
   pub kept : HoldsState cache state image
   pub lie : LieCovered state kept.layout covered parts

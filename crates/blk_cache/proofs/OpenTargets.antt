@@ -1,4 +1,4 @@
--- A live object that a handle names, as its record and a search for its key tell it.
+-- A live object that a handle names, as its record and a search for its key give it.
 use Rattle.std.proofs.Common.{◌≡◌, ℕ, List, [], sym, ap, true}
 use Rattle.spec_image.specs.Image.{Image}
 use Rattle.blk_model.specs.Items.{key_of, main, part}

@@ -1,4 +1,4 @@
--- What is pinned more where parts of an object that a handle names are covered.
+-- What more is pinned where parts of an object that a handle names are in range.
 use Rattle.std.proofs.Common.{◌≡◌, ◌≢◌, ℕ, zero, suc, ◌+◌, List, [], ◌∷◌, length, map, get_or, Bool, true, false, cond, not, Option, Some, None, T, refl, sym, ap, ap₂, ◌∙◌, subst, arith, ⊎_elim}
 use Rattle.std.specs.Prelude.{◌==◌, ◌&&◌, ◌||◌, IfSome, filter, if◌then◌else◌, is_some}
 use Rattle.std.specs.Bool.{passes}
@@ -182,7 +182,7 @@ module _ (state : State) (valid : IsValidState state) (number : ℕ) (object : O
     by None e = refl
     by (Some o) e = ap (λ (ps : List (ℕ × PartValue)). if not o.live || is_named state n then Some (record o { parts = ps }) else None) (same-parts ns n o apart e)
 
-  -- of the object its covered parts are
+  -- of the object its parts in range are pinned
   own-pinned : (covered : List Item) → pinned_of state covered number object ≡ Some (record object { parts = Pinned covered object })
   unfolding pinned_of
   own-pinned covered = ap (λ (b : Bool). cond b (Some (record object { parts = Pinned covered object })) None) (or_right (not object.live) (is_named state number) named)

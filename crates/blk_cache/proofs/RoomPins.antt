@@ -1,4 +1,4 @@
--- What is pinned where no part is covered, and where there is space.
+-- What is pinned where no part is in range, and where there is space.
 use Rattle.std.proofs.Common.{◌≡◌, ℕ, suc, ◌+◌, Bool, true, false, not, ◌&&◌, ◌||◌, cond, List, [], ◌∷◌, length, Some, None, Option, IfSome, refl, sym, ap, subst, ◌∙◌, arith, get_or}
 use Rattle.std.specs.Bool.{◌==◌}
 use Rattle.std.specs.List.{filter, list_any, sum_by}
@@ -12,7 +12,7 @@ use Rattle.blk_cache.specs.CacheKeeping.{named_from}
 use Rattle.blk_cache.specs.Covering.{part_count}
 use Rattle.blk_cache.specs.RoomTold.{NamedObjectsArePinned, RoomIsMade, RoomIsTold, is_over}
 
--- no part is covered
+-- where no part is in range none is pinned
 none-covered : (key : List ℕ) (parts : List (ℕ × PartValue)) → filter (λ (p : ℕ × PartValue). list_any (same_item (part key p.0)) []) parts ≡ []
 none-covered key [] = refl
 none-covered key (p ∷ parts) = none-covered key parts

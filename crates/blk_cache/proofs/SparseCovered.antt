@@ -1,4 +1,4 @@
--- The parts that a SparseWrite covers, as they are measured, are pinned.
+-- The parts in range of a SparseWrite, as they are measured, are pinned.
 use Rattle.std.proofs.lemmas.Bool.Decides.{nat_tests}
 use Rattle.std.proofs.Common.{◌≡◌, ℕ, ◌+◌, ◌-◌, ◌/◌, ◌%◌, ◌<◌, ◌≤◌, List, [], ◌∷◌, map, Bool, true, false, Option, Some, None, refl, sym, ap, ap₂, subst, ◌∙◌, arith}
 use Rattle.std.specs.Prelude.{◌||◌, IfSome, nat_lt, sum_by}
@@ -59,7 +59,7 @@ module _ (state : State) (valid : IsValidState state) (layout : Layout) (lies : 
   abbrev place : ℕ
   place = offset % 1048576
 
-  -- where one is covered
+  -- where one part is in range
   one : count ≤ 1048576 - place → AreCovered state layout (map (part object.key) (covered_parts offset count)) parts
   one fits =
       let cover : covered_parts offset count ≡ n ∷ [] = covers-one offset count n place refl refl some fits in

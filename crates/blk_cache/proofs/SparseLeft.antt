@@ -24,7 +24,7 @@ use Rattle.blk_cache.proofs.Sizes.{named-object}
 use Rattle.blk_cache.proofs.SparseRise.{Raises, SameParts, each-of, raised-by, raises-left, raises-of}
 use Rattle.blk_cache.proofs.SparseRoom.{groups-are, has-room}
 
--- ---- the covered parts are among the covered items
+-- ---- each part with a number in range is an item in range
 
 among : (key : List ℕ) (covers : List Item) (ns : List ℕ) → ((n : ℕ) → list_any (same_item (part key n)) (map (part key) ns) ≡ true → list_any (same_item (part key n)) covers ≡ true)
     → AllByRecursion (λ n. list_any (same_item (part key n)) covers ≡ true) ns
@@ -50,7 +50,7 @@ module _ (state : State) (valid : IsValidState state) (number : ℕ) (object : O
       ap (λ (slots : List (Option Object)). get_or slots number None) (objects-without state groups) ∙ map_at (left_of groups) state.objects number
       ∙ ap (option_and_then (left_of groups)) here ∙ named_left state valid covers groups loose number object here named
 
-  -- the covered ones stayed
+  -- the parts in range stayed
   pub same-parts : object.live ≡ true → SameParts left object ns
   same-parts live =
       each-of (λ n. list_any (same_item (part object.key n)) covers ≡ true) (λ n. part_at left n ≡ part_at object n) ns

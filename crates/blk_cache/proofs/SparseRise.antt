@@ -1,4 +1,4 @@
--- By how much a SparseWrite raises what is kept: as its covered parts are measured, and still once what it evicts is out.
+-- By how much a SparseWrite raises cost and items, as the parts in its range are measured; it is as much once what it evicts is out.
 use Rattle.std.proofs.Common.{◌≡◌, ℕ, suc, ◌+◌, ◌≤◌, List, [], ◌∷◌, length, set, Bool, true, false, not, cond, Option, Some, T, refl, sym, ap, subst, ◌∙◌, arith}
 use Rattle.std.specs.Prelude.{IfSome, if◌then◌else◌, is_some, max, sum_by, unwrap_or}
 use Rattle.std.specs.Bool.{passes}
@@ -111,7 +111,7 @@ module _ (object : Object) (parts : List (ℕ × PartValue)) (loose : Bool) (tar
     by later true e = ap (λ (b : Bool). length (cond (not b) (n ∷ missing_parts left m) (missing_parts left m))) e ∙ later
     by later false e = ap (λ (b : Bool). length (cond (not b) (n ∷ missing_parts left m) (missing_parts left m))) e ∙ ap suc later
 
-  -- where the covered parts are as they were it raises as much
+  -- where the parts in range are as they were it raises as much
   pub raises-left : SameParts left object ns → (more_bytes more_items : ℕ) → Raises object target offset bytes more_bytes more_items → Raises left target offset bytes more_bytes more_items
   raises-left same more_bytes more_items r =
       let one = more object target offset bytes some few valid is in

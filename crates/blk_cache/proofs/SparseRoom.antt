@@ -86,7 +86,7 @@ module _ (state : State) (moment handle offset : ℕ) (bytes : List ℕ) where
   room-found passes = let p = none_comes (refusals moment (to_sparse_write handle offset bytes) state) passes in p.1.1.1.1.1.0
 
   module _ (more_bytes more_items : ℕ) (raised : IsRaisedBy state moment handle offset bytes more_bytes more_items) where
-    -- it needs space for what it raises, beside what it covers
+    -- a SparseWrite needs space for what it adds, beside the parts in range
     pub room-is : room_for moment (to_sparse_write handle offset bytes) state ≡ room state (covered (to_sparse_write handle offset bytes) state) more_bytes more_items
     unfolding room_for
     room-is =

@@ -77,14 +77,14 @@ module _ (cache : Cache) (told : Told) (moment handle offset : ℕ) (bytes : Lis
   pub goes-on : ForKept (HoldsState cache) told (λ state. refused moment (to_sparse_write handle offset bytes) state ≡ None)
   goes-on image there state k = (has image there state k).1
 
-  -- what is evicted beside the covered parts is what it evicts
+  -- what is evicted beside the parts in range is what the SparseWrite evicts
   pub sparse-groups : (P : State → List Group → Type 0) → ForRoom cache rise.parts told rise.bytes rise.items P → ForKept (HoldsState cache) told (λ state. P state (evicted moment (to_sparse_write handle offset bytes) state))
   sparse-groups P holds image there state k =
       let h = has image there state k in
       subst (P state) (sym (groups-are state moment handle offset bytes rise.bytes rise.items h.0.rises.raised))
       (holds image there state k (covered (to_sparse_write handle offset bytes) state) h.0.rises.parts (has-room state moment handle offset bytes rise.bytes rise.items h.0.rises.raised h.1))
 
-  -- its parts are covered
+  -- where the cache keeps a state, it keeps one with the parts that were measured in range
   pub keeps-covered : ForSome told.files (KeepsAny cache) → ForSome told.files (KeepsCovered cache rise.parts)
   keeps-covered any image there =
       let k = any image there in

@@ -59,6 +59,6 @@ pub record KeepsCovered (cache : Cache) (parts : Covered) (image : Image) : Type
 abbrev pub no_parts : Covered
 no_parts = record { first = None; second = None; bytes = 0 }
 
--- where no part is in range, no item is covered and nothing more is pinned
+-- where no part is in range, `covered` is empty and nothing more is pinned
 abbrev pub NoPartsAreCovered : Type 0
 NoPartsAreCovered = (state : State) (layout : Layout) → AreCovered state layout [] no_parts

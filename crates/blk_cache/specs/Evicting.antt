@@ -1,4 +1,4 @@
--- Eviction units are evicted one after another, until a goal is met.
+-- Eviction units go one after another, until a goal is met.
 use Rattle.std.specs.Prelude.{◌≡◌, ℕ, Bool, List, ◌++◌, length, nat_le, sum_by}
 use Rattle.spec_image.specs.Image.{Image}
 use Rattle.blk_model.specs.Holding.{rest}
@@ -23,7 +23,7 @@ is_met (Bytes most) state = nat_le (total state) most
 abbrev pub count_of_groups : List Group → ℕ
 count_of_groups groups = sum_by (λ group. length (items_of_group group)) groups
 
--- while eviction units of a state are evicted one after another, recovery gives the durable contents without a prefix of them
+-- while eviction units of a state go one after another, recovery gives the durable contents without a prefix of them
 pub record IsEvicting (groups : List Group) (state : State) (image : Image) : Type 0 where
   pub first : List Group
   pub others : List Group

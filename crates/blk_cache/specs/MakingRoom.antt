@@ -15,6 +15,6 @@ abbrev pub says_full : Room → Bool
 says_full Full = true
 says_full Made = false
 
--- P holds, with the eviction units that are evicted for them, of each state that the cache keeps in which there is space for so many more bytes and items
+-- P holds of each state that the cache keeps in which there is space for so many more bytes and items, with the eviction units that go for them
 abbrev pub ForRoom : Cache → Covered → Told → (bytes more : ℕ) → (State → List Group → Type 0) → Type 0
 ForRoom cache parts told bytes more P = ForCovered cache parts told (λ state covered. is_full (room state covered bytes more) ≡ false → P state (evicted_for (room state covered bytes more)))

@@ -1,4 +1,4 @@
--- The invariant of a cache after an eviction unit is evicted.
+-- The invariant of a cache once an eviction unit is out.
 use Rattle.std.specs.Prelude.{◌≡◌, ℕ, ◌+◌, List, [], ◌∷◌, length, sum_by}
 use Rattle.spec_image.specs.Image.{Image, Index, byte}
 use Rattle.spec_format.specs.Headers.{this_id_of}
@@ -24,7 +24,7 @@ pub record HasFewer (old new : Cache) (item_count charged : ℕ) : Type 0 where
   pub handles : new.handles ≡ old.handles
   pub mark : new.mark ≡ old.mark
 
--- the eviction unit is evicted: the folder keeps the state without it in the same session, and the cache counts its items and costs no longer
+-- the eviction unit is out: the folder keeps the state without it in the same session, and the cache counts its items and costs no longer
 pub record IsEvicted (state : State) (group : Group) (layout left : Layout) (old new : Cache) (from image : Image) : Type 0 where
   pub kept : Keeps (without (group ∷ []) state) left [] image
   pub stay : NamedObjectsStay (without (group ∷ []) state) layout left
@@ -37,7 +37,7 @@ pub record KeepsBy (cache : Cache) (state : State) (layout : Layout) (image : Im
   pub kept : HoldsState cache state image
   pub layout_is : kept.layout ≡ layout
 
--- once the eviction unit of an item that may be evicted is evicted, the cache keeps the state without it, by the layout that is left
+-- once the eviction unit of an item that may be evicted is out, the cache keeps the state without it, by the layout that is left
 abbrev pub EvictedStatesAreKept : Type 0
 EvictedStatesAreKept =
     (state : State) (front : List Item) (item : Item) (behind : List Item) (left : Layout) (old new : Cache) (from image : Image) (k : HoldsState old state from)

@@ -66,11 +66,11 @@ abbrev pub IsAskedTarget : State → Layout → (moment handle offset : ℕ) →
 IsAskedTarget state layout moment handle offset bytes (target.Refused why) = refused moment (to_sparse_write handle offset bytes) state ≡ Some why
 IsAskedTarget state layout moment handle offset bytes (target.Found found) = IsTargetNamed state layout moment handle offset (length bytes) found
 
--- in each state that the cache keeps, the handle names the object that the target tells
+-- in each state that the cache keeps, the handle names the object of the target
 abbrev pub NamesTarget : Cache → Told → (moment handle offset count : ℕ) → Target → Type 0
 NamesTarget cache told moment handle offset count found = ForSome told.files (λ image. (state : State) (kept : HoldsState cache state image) → IsTargetNamed state kept.layout moment handle offset count found)
 
--- in each state that the cache keeps, the handle of the request names the object that the target tells
+-- in each state that the cache keeps, the handle of the request names the object of the target
 abbrev pub NamesTargetFor : Cache → Told → SparseRequest → Target → Type 0
 NamesTargetFor cache told request found = NamesTarget cache told request.moment request.handle request.offset (length request.bytes.now) found
 

@@ -1,4 +1,4 @@
-// The parts that a command covers.
+// The parts in range of a command.
 ghost use Rattle.std.specs.Prelude.{◌≡◌};
 ghost use Rattle.blk_cache.specs.Covering.{covers, no_parts, one_if_some, part_count};
 

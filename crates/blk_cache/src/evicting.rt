@@ -23,7 +23,7 @@ use blk_io::{Fault, Folder, Sink};
 
 impl Cache {
     /// Removes eviction units, each that of the last item that isn't pinned, until enough is evicted or each item is pinned, and
-    /// prints each item of them. The answer is how many items were evicted. The covered parts are pinned.
+    /// prints each item of them. The answer is how many items were evicted. The parts in range are pinned.
     ///
     /// After a fault nothing is promised of the cache but that it can be dropped. Where the output fails nothing more is
     /// printed, and the eviction goes on.
@@ -37,12 +37,12 @@ impl Cache {
     ) -> Result<u64, Fault>
         requires is_open { ForSome (F.told folder.old).files (IsOpen self.old.files) }
 
-        // Each state that was kept is kept without the eviction units that are evicted, and these are counted and printed.
+        // Each state that was kept is kept without the eviction units that go, and their items are counted and printed.
         ensures evicted { OnOk result (ForCovered self.old parts.now (F.told folder.old) (λ state covered. ForSome (F.told folder.new).files (HoldsState self.new (without (evicted_until (is_met goal.now) state covered) state)))) }
         ensures counts { IfOk result (λ count. ForCovered self.old parts.now (F.told folder.old) (λ state covered. count ≡ count_of_groups (evicted_until (is_met goal.now) state covered))) }
         ensures prints { OnOk result (ForCovered self.old parts.now (F.told folder.old) (λ state covered. PrintsUnlessFailed failed.old failed.new (K.written out.old) (K.written out.new) (evicted_text (evicted_until (is_met goal.now) state covered)))) }
 
-        // At each word a prefix of the evicted eviction units is out; on any answer a prefix of their text was printed.
+        // At each word a prefix of the eviction units that go is out; on any answer a prefix of their text was printed.
         ensures stops { ForCovered self.old parts.now (F.told folder.old) (λ state covered. Passes (F.told folder.old) (F.told folder.new) (IsEvicting (evicted_until (is_met goal.now) state covered) state)) }
         ensures front { ForCovered self.old parts.now (F.told folder.old) (λ state covered. Appends (K.written out.old) (K.written out.new) (evicted_text (evicted_until (is_met goal.now) state covered))) }
 
@@ -55,7 +55,7 @@ impl Cache {
         // Corruption is a check that fails on what is read here; nothing is written after it.
         ensures damaged { IfDamaged result (IsFailedCheck self.new.files (F.told folder.new)) }
 
-        // An observable folder reports no corruption where the cache keeps a state, in which these parts are covered.
+        // An observable folder reports no corruption where the cache keeps a state with these parts in range.
         ensures untold { ForSome (F.told folder.old).files (KeepsCovered self.old parts.now) → IfDamaged result (λ _. (F.told folder.old).files ≡ None) }
         ensures writes { MayWrite F.told F.faults folder.old folder.new (IfDevice result) }
         ensures sink_later { GoesOn K.is K.faults out.old out.new }

@@ -35,7 +35,7 @@ pub(crate) enum Room {
 
 impl Cache {
     /// Makes space for so many more bytes and items, where there can be space, and prints what is evicted for it. No
-    /// part is covered.
+    /// part is in range.
     ///
     /// After a fault nothing is promised of the cache but that it can be dropped.
     pub(crate) fn make_room<F: Folder, K: Sink>(
@@ -82,7 +82,7 @@ impl Cache {
     }
 
     /// Makes space for so many more bytes and items, where there can be space, and prints what is evicted for it. The
-    /// covered parts stay.
+    /// parts in range stay.
     ///
     /// Nothing is evicted where they fit, or nothing is asked for; and whether there can be space is decided by what is
     /// kept in memory. After a fault nothing is promised of the cache but that it can be dropped.
@@ -120,7 +120,7 @@ impl Cache {
         // Corruption is a check that fails on what is read here; nothing is written after it.
         ensures damaged { IfDamaged result (IsFailedCheck self.new.files (F.told folder.new)) }
 
-        // An observable folder reports no corruption where the cache keeps a state, in which these parts are covered.
+        // An observable folder reports no corruption where the cache keeps a state with these parts in range.
         ensures untold { ForSome (F.told folder.old).files (KeepsCovered self.old parts.now) → IfDamaged result (λ _. (F.told folder.old).files ≡ None) }
         ensures silent { (F.told folder.old).files ≡ None → (F.told folder.new).files ≡ None }
         ensures later { F.faults folder.old ≤ F.faults folder.new }
@@ -135,7 +135,7 @@ impl Cache {
     }
 
     /// Evicts what is needed for so many more bytes and items, where there can be space for them, and prints it. The
-    /// covered parts stay.
+    /// parts in range stay.
     ///
     /// Nothing is evicted where they fit, or nothing is asked for. After a fault nothing is promised of the cache but that
     /// it can be dropped.
@@ -167,7 +167,7 @@ impl Cache {
         // Corruption is a check that fails on what is read here; nothing is written after it.
         ensures damaged { IfDamaged result (IsFailedCheck self.new.files (F.told folder.new)) }
 
-        // An observable folder reports no corruption where the cache keeps a state, in which these parts are covered.
+        // An observable folder reports no corruption where the cache keeps a state with these parts in range.
         ensures untold { ForSome (F.told folder.old).files (KeepsCovered self.old parts.now) → IfDamaged result (λ _. (F.told folder.old).files ≡ None) }
         ensures writes { MayWrite F.told F.faults folder.old folder.new (IfDevice result) }
         ensures sink_later { GoesOn K.is K.faults out.old out.new }

@@ -18,8 +18,8 @@ use crate::covered::Covered;
 const FREE_SHARE: u64 = 16;
 
 impl Cache {
-    /// Whether there is no space for so many more bytes and items: the open objects, the covered parts and what is
-    /// added exceed a limit.
+    /// Whether there is no space for so many more bytes and items: some are to be added, and the open objects, the parts in
+    /// range and what is added exceed a limit.
     pub(crate) fn is_full(&self, bytes: u64, items: u64, parts: &Covered) -> bool
         ensures full { (state : State) (image : Image) (kept : HoldsState self.now state image) (covered : List Item) → AreCovered state kept.layout covered parts.now → result ≡ is_full (room state covered bytes items) }
     {

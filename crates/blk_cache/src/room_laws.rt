@@ -9,7 +9,7 @@ pub fn named_objects_are_pinned()
     ensures made { RoomIsMade }
 {}
 
-/// After the eviction unit of the last item that isn't pinned is evicted from the folder, the cache keeps the state without it; objects that handles name have
+/// Once the eviction unit of the last item that isn't pinned is out of the folder, the cache keeps the state without it; objects that handles name have
 /// the nodes that they had.
 pub fn evicted_states_are_kept()
     ensures kept { EvictedStatesAreKept }

@@ -70,7 +70,7 @@ impl Cache {
         Ok(None)
     }
 
-    // Whether the item with this record and node is pinned: a handle names its object, or it is a covered part.
+    // Whether the item with this record and node is pinned: a handle names its object, or it is a part in range.
     fn pins(&self, entry: Addr, node: Addr, parts: &Covered) -> bool
         ensures { result ≡ (is_open self.now.handles entry || covers parts.now node) }
     {

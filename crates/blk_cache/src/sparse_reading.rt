@@ -19,7 +19,7 @@ use blk_io::{Fault, Folder};
 use blk_model::{Answer, Refusal};
 use blk_sparse::use_range;
 
-/// What is asked of the sparse data that a command covers.
+/// What is asked of the sparse data in the range of a command.
 #[derive(Clone, Copy, PartialEq, Eq)]
 pub(crate) enum Wanted {
     /// How many bytes there are from the offset on, which are printed then: a SparseRead.
@@ -30,8 +30,8 @@ pub(crate) enum Wanted {
 
 impl Cache {
     /// Does all of a SparseRead or a SparseRange that writes: the item of its object is put in front of the LRU list, and
-    /// then each part that the bytes cover and that there is, in rising number. The answer gives what is wanted of the
-    /// first run of present bytes.
+    /// then each part in range that exists, in rising number. The answer gives what is wanted of the first run of present
+    /// bytes.
     ///
     /// It is refused with `BadHandle` where the name is free, or 4096 or more, `TooLarge` where there are more than 1048576
     /// bytes, `RangeEnd` where they end after 68719476736, `Doomed` where the object is doomed, and `NotSparse` where it is

@@ -32,7 +32,7 @@ pub(crate) struct Rise {
 impl Cache {
     /// Measures what so many bytes of sparse data from an offset on add to an object. Nothing is written.
     ///
-    /// Each covered part is searched, and two folder calls read one that there is.
+    /// Each part in range is searched for, and two folder calls read one that exists.
     pub(crate) fn measure_rise<F: Folder>(
         &mut self,
         folder: &mut F,

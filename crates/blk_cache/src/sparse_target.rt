@@ -31,7 +31,7 @@ impl Cache {
     /// The object that a handle names, for some bytes of sparse data from an offset on; a plain one gets the moment as its
     /// generation. Nothing is written.
     ///
-    /// It is refused as `ask_sparse` tells, and then with `NotSparse` where it is plain and has more than one stream.
+    /// The request is refused as by `ask_sparse`, and then with `NotSparse` where the object is plain and has more than one stream.
     pub(crate) fn ask_target<F: Folder>(
         &self,
         folder: &mut F,

@@ -1,4 +1,4 @@
--- Eviction units that are evicted one after another, from the back of the LRU list as it is then.
+-- Eviction units go one after another, from the back of the LRU list as it is then.
 use Rattle.std.proofs.Common.{◌≡◌, inl, inr, ℕ, ◌+◌, Bool, true, false, ◌||◌, cond, List, [], ◌∷◌, ◌++◌, Some, None, Option, refl, sym, ap, subst, ◌∙◌, reverse, append-nil, append_assoc, map, ⊎_elim}
 use mathlib.Core.List.{reverse-cons}
 use Rattle.std.specs.List.{AllByRecursion, cons_option, list_any}
@@ -77,7 +77,7 @@ back-of front item behind =
     ∙ ap (λ (l : List Item). l ++ reverse front) (reverse-cons item behind)
     ∙ append_assoc (reverse behind) (item ∷ []) (reverse front)
 
--- the first eviction unit that could be evicted is that of the last item that isn't pinned
+-- the first eviction unit that could go is that of the last item that isn't pinned
 first-back : (state : State) (covered front : List Item) (item : Item) (behind : List Item) → IsLastUnpinned state covered front item behind
     → groups_from_back (is_pinned state covered) (reverse state.uses) ≡ group_for item front ∷ groups_from_back (next (is_pinned state covered) item) (reverse front)
 first-back state covered front item behind is =
@@ -114,7 +114,7 @@ unfolding evicted_until
 nothing-more enough state covered (inl e) = none-shortest (λ groups. enough (without groups state)) (groups_from_back (is_pinned state covered) (reverse state.uses)) (ap enough (without-none state) ∙ e)
 nothing-more enough state covered (inr all) = ap (shortest (λ groups. enough (without groups state)) []) (none-back (is_pinned state covered) state.uses all)
 
--- an eviction unit is evicted for an item that isn't pinned
+-- the eviction unit of an item that need not stay may go
 pub loose-for : (stays : Item → Bool) (item : Item) (front : List Item) → stays item ≡ false → IsLoose stays (group_for item front)
 loose-for stays (main key) front e = e
 loose-for stays (part key n) front e = e
@@ -154,7 +154,7 @@ pinned-before state covered [] item stays = refl
 pinned-before state covered (group ∷ groups) (main key) stays = ap (λ (o : Option ℕ). option_map_or (is_named state) o false) (first-same (group ∷ groups) (main key) 0 state.objects stays)
 pinned-before state covered (group ∷ groups) (part key n) stays = refl
 
--- an item that is covered is one of these
+-- what holds of each of the items in range holds of an item that is one of them
 pub covered-one : (item : Item) (covered : List Item) (P : Item → Type 0) → AllByRecursion P covered → list_any (same_item item) covered ≡ true → P item
 covered-one item [] P all e = absurd (clash (sym e))
 covered-one item (other ∷ covered) P all e = ⊎_elim

@@ -1,4 +1,4 @@
--- Lemmas on evictions: eviction units are evicted one after another from the end of the LRU list, and what one leaves.
+-- Lemmas on evictions: eviction units go one after another from the end of the LRU list, and what one leaves.
 use Rattle.std.specs.Prelude.{◌≡◌, ◌⊎◌, ℕ, ◌+◌, Bool, true, false, List, [], ◌∷◌, ◌++◌, length, sum_by}
 use Rattle.std.specs.List.{AllByRecursion}
 use Rattle.std.specs.Option.{option_map_or}
@@ -47,7 +47,7 @@ AreAllPinned state covered = AllByRecursion (λ item. is_pinned state covered it
 abbrev pub NothingMoreGoes : Type 0
 NothingMoreGoes = (enough : State → Bool) (state : State) (covered : List Item) → (enough state ≡ true) ⊎ AreAllPinned state covered → evicted_until enough state covered ≡ []
 
--- an eviction whose goal isn't met evicts the eviction unit of the last item that isn't pinned, and then what it evicts from the state without that unit
+-- an eviction whose goal isn't met removes the eviction unit of the last item that isn't pinned, and then what it evicts from the state without that unit
 abbrev pub TheLastUnpinnedGoesNext : Type 0
 TheLastUnpinnedGoesNext = (enough : State → Bool) (state : State) (covered front : List Item) (item : Item) (behind : List Item) → IsValidState state → IsLastUnpinned state covered front item behind → enough state ≡ false
     → evicted_until enough state covered ≡ group_for item front ∷ evicted_until enough (without (group_for item front ∷ []) state) covered
@@ -65,7 +65,7 @@ ItemsThatStayArePinnedAsBefore = (state : State) (covered : List Item) (groups :
 abbrev pub TheLastUnpinnedMayGo : Type 0
 TheLastUnpinnedMayGo = (state : State) (covered front : List Item) (item : Item) (behind : List Item) → AreOfNamed state covered → IsLastUnpinned state covered front item behind → MayGo state front item behind
 
--- the parts in range are still those of an object that a handle names after an eviction unit that may be evicted is
+-- the parts in range are still those of an object that a handle names once the eviction unit of an item that may be evicted is out
 abbrev pub CoveredPartsStayOfNamed : Type 0
 CoveredPartsStayOfNamed = (state : State) (covered front : List Item) (item : Item) (behind : List Item) → AreOfNamed state covered → MayGo state front item behind → AreOfNamed (without (group_for item front ∷ []) state) covered
 

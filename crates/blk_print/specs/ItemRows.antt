@@ -29,7 +29,7 @@ pub record HasKeptState (files : BlockFiles) (image : Image) : Type 0 where
   pub kept : Keeps state layout [] image
   pub is_open : IsOpen files image
 
--- the words of a record and its key tell what is loaded with it: its kind, its key, the lengths of its streams, and of a part its name
+-- the words and the key of a record agree with what is loaded with it: its kind, its key, the lengths of its streams; and the key of a part reads as its name
 pub record IsItemToldBy (loaded : Loaded) (name : List ℕ) (head : Head) : Type 0 where
   pub kind : kind_said head.flags ≡ kind_of_role loaded.role
   pub key : name ≡ loaded.key

@@ -18,7 +18,7 @@ use Rattle.blk_run.specs.Session.{Ending, FixedMayEnd, FixedScript, IsComplete, 
 printed_as : (run other : Run) (old new : Option (List ℕ)) → run ≡ other → new ≡ option_map (λ (w : List ℕ). w ++ text_of run.turns) old → new ≡ option_map (λ (w : List ℕ). w ++ text_of other.turns) old
 printed_as run other old new same printed = printed ∙ ap (λ (r : Run). option_map (λ (w : List ℕ). w ++ text_of r.turns) old) same
 
--- the input is longer than the budget
+-- an input within the input limit has no byte past it
 past : (budget : ℕ) (input bytes : List ℕ) (left : Option (List ℕ)) → IsPastBudget budget input bytes left → length input ≤ budget → ⊥
 past budget input bytes left more within =
     let all = ap (λ (l : List ℕ). length l) more.split ∙ length-append bytes (more.byte_more ∷ more.behind) in

@@ -305,7 +305,7 @@ taken_so_far budget left input_old input line lines_now keeps_old keeps notes_ol
     let l = so_far.of bytes there in
     (so_far.taken, record { behind = l.0; split = l.1.0; left_is = l.1.1; within = let c = so_far.count in omega (arith, c) })
 
--- where more bytes are left than may be used the input is longer than the budget
+-- where more bytes are left than may be used the input is longer than the input limit
 pub long_input : (budget left : ℕ) (bytes mid : List ℕ) (line : Line) (lines_now : ℕ) (keeps_old keeps : State → Image → Type 0) (notes_old notes : ℕ) (old new : Around)
     → IsInputPlayed budget left (Some bytes) (Some mid) line lines_now keeps_old keeps notes_old notes old new → left < length mid → budget < length bytes
 long_input budget left bytes mid line lines_now keeps_old keeps notes_old notes old new so_far more =
@@ -320,7 +320,7 @@ long_input budget left bytes mid line lines_now keeps_old keeps notes_old notes 
     inside : {x y : List ℕ} → ◌≡◌ {A = Option (List ℕ)} (Some x) (Some y) → x ≡ y
     inside e = cc
 
--- more bytes follow than the budget
+-- an input with a byte past the input limit is longer than the limit
 pub past_budget : (budget : ℕ) (input : List ℕ) (taken : List ℕ) (left : Option (List ℕ)) → IsPastBudget budget input taken left → budget < length input
 past_budget budget input taken left past =
     let s = ap length past.split in

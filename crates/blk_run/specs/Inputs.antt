@@ -1,4 +1,4 @@
--- The lines of an input are played, up to a limit of bytes (the budget).
+-- The lines of an input are played, up to the input limit.
 use Rattle.std.specs.Prelude.{ℕ, ◌≡◌, ◌≤◌, List, [], ◌∷◌, ◌++◌, length, Result, Ok, Err}
 use Rattle.std.specs.Option.{ForSome}
 use Rattle.std.specs.declared.option.Option.{Option}
@@ -13,19 +13,19 @@ use Rattle.blk_run.specs.declared.input.InputEnd.{InputEnd}
 use Rattle.blk_run.specs.declared.input.InputEnd.TheVariants as end
 use Rattle.blk_run.specs.Playing.{Around, PlaysPart, SoFar}
 
--- the input was read to its end, and isn't longer than the budget
+-- the input was read to its end, and isn't longer than the input limit
 pub record IsReadWhole (budget : ℕ) (input : List ℕ) (left : Option (List ℕ)) : Type 0 where
   pub within : length input ≤ budget
   pub none_left : left ≡ Some []
 
--- `bytes` were read of the input, no more than the budget
+-- `bytes` were read of the input, no more than the input limit
 pub record IsTaken (budget : ℕ) (input bytes : List ℕ) (left : Option (List ℕ)) : Type 0 where
   pub behind : List ℕ
   pub split : input ≡ bytes ++ behind
   pub left_is : left ≡ Some behind
   pub within : length bytes ≤ budget
 
--- `bytes`, as many as the budget, were read of the input, and one byte more
+-- `bytes`, as many as the input limit, were read of the input, and one byte more
 pub record IsPastBudget (budget : ℕ) (input bytes : List ℕ) (left : Option (List ℕ)) : Type 0 where
   pub byte_more : ℕ
   pub behind : List ℕ
@@ -48,7 +48,7 @@ IfFailed (Ok end.Whole) P = Unit {0}
 IfFailed (Ok end.TooLong) P = Unit {0}
 IfFailed (Err why) P = Unit {0}
 
--- where the answer is that the input is longer than the budget, P holds; any other answer is fine
+-- where the answer is that the input is longer than the input limit, P holds; any other answer is fine
 abbrev pub IfTooLong : {E : Type 0} → Result InputEnd E → Type 0 → Type 0
 IfTooLong (Ok end.TooLong) P = P
 IfTooLong (Ok end.Whole) P = Unit {0}

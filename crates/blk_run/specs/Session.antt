@@ -129,7 +129,7 @@ pub record Runs (protocol : Protocol) (result : Status) (limits : Bounds) (budge
   pub run : Run
   pub is : run ≡ ended_run protocol from limits readings input ending
   pub may_end : MayEnd protocol result ending budget input run new.left source sink
-  -- at most one byte more than the budget is read
+  -- at most one byte more than the input limit is read
   pub takes : IsTakenUpTo (budget + 1) new.left input
   pub ends : EndsAs result ending from run sink old new
 
@@ -155,7 +155,7 @@ Session protocol result limits budget from readings input source sink old new = 
 
 -- Completeness.
 
--- where nothing failed and the input is within the budget, the whole output was printed; or memory ran out, and nothing was done
+-- where nothing failed and the input is within the input limit, the whole output was printed; or memory ran out, and nothing was done
 abbrev pub IsComplete : Protocol → Status → Bounds → Image → Readings → List ℕ → Outside → Outside → Type 0
 IsComplete protocol status.Ok limits from readings input old new = new.written ≡ option_map (λ (w : List ℕ). w ++ text_of (session_run from limits readings (protocol.whole input)).turns) old.written
 IsComplete protocol status.Refused limits from readings input old new = new.written ≡ option_map (λ (w : List ℕ). w ++ text_of (session_run from limits readings (protocol.whole input)).turns) old.written

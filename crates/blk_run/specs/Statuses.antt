@@ -29,7 +29,7 @@ IfWhole status.Ok P = P
 IfWhole status.Refused P = P
 IfWhole _ P = Unit {0}
 
--- the cause of each status: a failed check; a raised error counter of folder, input or output; an input longer than the budget. Out of memory has none
+-- the cause of each status: a failed check; a raised error counter of folder, input or output; an input longer than the input limit. Out of memory has none
 abbrev pub CauseOf : Status → (damaged device source sink long : Type 0) → Type 0
 CauseOf status.Ok damaged device source sink long = Unit {0}
 CauseOf status.Refused damaged device source sink long = Unit {0}

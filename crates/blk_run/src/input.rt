@@ -20,7 +20,7 @@ use blk_io::{Clock, Failed, Folder, Sink, Source};
 // How many bytes are taken at once.
 const PIECE: usize = 4096;
 
-// How the bytes of an input came to an end: at its end, where it failed, or at the budget with one more after it.
+// How the bytes of an input came to an end: at its end, where it failed, or at the input limit with one more byte after it.
 #[derive(Clone, Copy)]
 pub(crate) enum InputEnd {
     Whole,
@@ -28,7 +28,7 @@ pub(crate) enum InputEnd {
     TooLong,
 }
 
-// Takes the next bytes of an input, at most one past what is left of the budget.
+// Takes the next bytes of an input, at most one past what is left of the input limit.
 fn take_piece<S: Source>(input: &mut S, left: u64, piece: &mut [u8; 4096]) -> Result<usize, Failed>
     ensures within { IfOk result (λ n. (n ≤ 4096) × (n ≤ left + 1)) }
     ensures left { IfOk result (λ n. S.left input.new ≡ option_map (drop n) (S.left input.old)) }
@@ -54,7 +54,7 @@ fn front(bytes: &[u8], count: usize) -> &[u8]
     &bytes[..count]
 }
 
-// Plays the lines of an input, up to a budget of bytes.
+// Plays the lines of an input, up to the input limit.
 pub(crate) fn play_input<F: Folder, S: Source, K: Sink, C: Clock>(
     cache: &mut Cache,
     played: &mut Played,

@@ -54,7 +54,7 @@ pub fn session<F: Folder, S: Source, K: Sink, C: Clock>(
     // On a folder that is uninitialized or well formed it is the run of the lines on the map model, whatever clock and input give.
     ensures session { ForSome (F.told folder.old).files (λ from. IsUsable from → ReadsAs (C.readings clock.old) (C.readings clock.new) (λ readings late. TakesAs (S.left input.old) (S.left input.new) (λ bytes rest. Session by_lines result (bounds_of limits) budget from readings bytes (Rises (S.faults input.old) (S.faults input.new)) (Rises (K.faults out.old) (K.faults out.new)) (outside (F.told folder.old) (K.written out.old) (Some bytes) (Some readings)) (outside (F.told folder.new) (K.written out.new) (Some rest) (Some late))))) }
 
-    // Where nothing fails and the input is within the budget the whole output is printed, unless it is out of memory.
+    // Where nothing fails and the input is within the input limit the whole output is printed, unless the session is out of memory.
     ensures complete { ForSome (F.told folder.old).files (λ from. IsUsable from → ForSome (C.readings clock.old) (λ readings. ForSome (S.left input.old) (λ bytes. length bytes ≤ budget → (Rises (F.faults folder.old) (F.faults folder.new) → ⊥) → (Rises (S.faults input.old) (S.faults input.new) → ⊥) → (Rises (K.faults out.old) (K.faults out.new) → ⊥) → IsComplete by_lines result (bounds_of limits) from readings bytes (outside (F.told folder.old) (K.written out.old) (S.left input.old) (C.readings clock.old)) (outside (F.told folder.new) (K.written out.new) (S.left input.new) (C.readings clock.new))))) }
 
     // On an initialized folder of which a check fails that is printed, and no more is done.
@@ -71,7 +71,7 @@ pub fn session<F: Folder, S: Source, K: Sink, C: Clock>(
     // Where all is done nothing of it waits in the output, on every output.
     ensures handed { IfWhole result (K.waiting out.old ≡ false → K.waiting out.new ≡ false) }
 
-    // No more of the input is taken than the budget and one byte.
+    // No more of the input is taken than the input limit and one byte.
     ensures takes { ForSome (S.left input.old) (IsTakenUpTo (budget + 1) (S.left input.new)) }
 {
     let Ok(mut line) = Line::new(alloc) else {

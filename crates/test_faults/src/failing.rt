@@ -197,7 +197,7 @@ const LIMITS: Limits = Limits {
     max_items: MOST_ITEMS / 2,
 };
 
-// The same line, where the budget ends inside it.
+// A line that the input limit cuts isn't run.
 #[test]
 fn a_line_that_the_budget_cuts_is_not_run(rt: HostRuntime) -> Result<(), Fail> {
     let mut f = MemFolder::without_trail(rt.alloc());

@@ -1,4 +1,4 @@
-// A session whose input is longer than its budget.
+// A session whose input is longer than its input limit.
 use blk_io::{ListClock, MemSink, MemSource};
 use blk_run::{Status, session};
 use std::test::Fail;

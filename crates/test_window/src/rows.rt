@@ -7,7 +7,7 @@ use std::alloc::Global;
 use std::test::Fail;
 use test_folders::inputs::{Pieces, text_of};
 
-// A budget of more bytes than any of these inputs has.
+// An input limit of more bytes than any of these inputs has.
 const BUDGET: u64 = 100_000;
 
 const LIMITS: Limits = Limits {
