@@ -6,9 +6,8 @@ use Rattle.spec_image.specs.Bytes.{word_bytes}
 use Rattle.spec_image.specs.Image.{Image, Index}
 use Rattle.spec_image.specs.Steps.{TrailStep, Word, after, applied, word_step}
 use Rattle.spec_image.specs.Told.{Told, Along, Applies, AppliesPrefix, HasNoNote, PassesAny}
-use Rattle.spec_image.proofs.Quiet.{noteless-append, noteless_prefix}
+use Rattle.spec_image.proofs.Quiet.{noteless-append, noteless_prefix, noteless-word_step}
 use Rattle.spec_image.proofs.Runs.{grows_none, grows_then, until-append, until_prefix, until_weaker2}
-use Rattle.spec_image.proofs.WordSteps.{quiet-word_step}
 use Rattle.blk_repair.specs.Counters.{crash_place}
 use Rattle.blk_repair.specs.Endings.{RepairBreaksOff, EndsOrBreaksOff, EndsWithCrashWord}
 use Rattle.blk_repair.proofs.CrashWord.{IsOther, SpareIt, spare-append}
