@@ -33,21 +33,26 @@ pub tag_below : (p : Pages) (k : ℕ) (page : Page) → lookup (nat_eq k) p.slot
 tag_below p k page there = subst (λ n. k < n) (sym p.tags.ok.0) (tag_within p k page there)
 
 -- a tag tells whether its slot has a page
-pub tag_shows : (p : Pages) (file : File) (number k : ℕ) (tag : Tag) → Some tag ≡ slice_get p.tags.items k → passes (shows file number) k p.slots.entries ≡ has_name file number tag
+pub tag_shows : (p : Pages) (file : File) (number k : ℕ) (tag : Tag) → Some tag ≡ slice_get p.tags.items k
+    → passes (shows file number) k p.slots.entries ≡ has_name file number tag
 tag_shows p file number k tag is =
     passes_same (shows file number) (λ page. has_name file number (tag_in page)) (λ page. sym (name_shown page.tag.is_held (file_of page.tag.file) file page.tag.number number _)) k p.slots.entries
     ∙ says tag_in p.tags.items (has_name file number) k tag p.slots.entries p.tagged is
 
 -- what a tag that a test refuses says of its slot
-refused : (p : Pages) (test : Tag → Bool) (k : ℕ) (tag : Tag) (page : Page) → Some tag ≡ slice_get p.tags.items k → lookup (nat_eq k) p.slots.entries ≡ Some page → test tag ≡ false → test page.tag ≡ false
-refused p test k tag page is there fails = passes_at (λ page. test (tag_in page)) k p.slots.entries page there ∙ says tag_in p.tags.items test k tag p.slots.entries p.tagged is ∙ fails
+refused : (p : Pages) (test : Tag → Bool) (k : ℕ) (tag : Tag) (page : Page) → Some tag ≡ slice_get p.tags.items k
+    → lookup (nat_eq k) p.slots.entries ≡ Some page → test tag ≡ false → test page.tag ≡ false
+refused p test k tag page is there fails = passes_at (λ page. test (tag_in page)) k p.slots.entries page there
+    ∙ says tag_in p.tags.items test k tag p.slots.entries p.tagged is ∙ fails
 
 -- the slot of a tag that isn't touched is left as it is
-pub untouched_slot : (p : Pages) (file : File) (at : ℕ) (bytes : List ℕ) (k : ℕ) (tag : Tag) → Some tag ≡ slice_get p.tags.items k → touches file at (length bytes) tag ≡ false → (page : Page) → lookup (nat_eq k) p.slots.entries ≡ Some page
+pub untouched_slot : (p : Pages) (file : File) (at : ℕ) (bytes : List ℕ) (k : ℕ) (tag : Tag) → Some tag ≡ slice_get p.tags.items k
+    → touches file at (length bytes) tag ≡ false → (page : Page) → lookup (nat_eq k) p.slots.entries ≡ Some page
     → option_and_then (written file at bytes) (seen page) ≡ seen page
 untouched_slot p file at bytes k tag is fails page there =
     left_by_write page.tag.is_held (file_of page.tag.file) file page.tag.number page.tag.count at page.bytes.items bytes page.whole page.tag.within (refused p (touches file at (length bytes)) k tag page is there fails)
 
 -- the slot of a tag of another file is left as it is
-pub other_slot : (p : Pages) (file : File) (k : ℕ) (tag : Tag) → Some tag ≡ slice_get p.tags.items k → is_of file tag ≡ false → (page : Page) → lookup (nat_eq k) p.slots.entries ≡ Some page → option_and_then (unless_of file) (seen page) ≡ seen page
+pub other_slot : (p : Pages) (file : File) (k : ℕ) (tag : Tag) → Some tag ≡ slice_get p.tags.items k → is_of file tag ≡ false → (page : Page)
+    → lookup (nat_eq k) p.slots.entries ≡ Some page → option_and_then (unless_of file) (seen page) ≡ seen page
 other_slot p file k tag is fails page there = left_by_drop page.tag.is_held (file_of page.tag.file) file page.tag.number _ (refused p (is_of file) k tag page is there fails)

@@ -40,7 +40,8 @@ module _ {T : Type 0} where
   set_other (x ∷ tags) (suc q) zero t other = refl
   set_other (x ∷ tags) (suc q) (suc k) t other = set_other tags q k t (λ e. other (ap suc e))
 
-  tag_set : (test : T → Bool) (tags : List T) (q k : ℕ) (t : T) → k < length tags → tag_passes test q (slice_set tags k t) ≡ cond (nat_eq q k) (test t) (tag_passes test q tags)
+  tag_set : (test : T → Bool) (tags : List T) (q k : ℕ) (t : T) → k < length tags
+      → tag_passes test q (slice_set tags k t) ≡ cond (nat_eq q k) (test t) (tag_passes test q tags)
   tag_set test tags q k t less = pick (nat_eq q k)
       (λ hit. subst (λ n. tag_passes test n (slice_set tags k t) ≡ test t) (is_number q k hit) (ap (λ o. option_map_or test o false) (set_same tags k t less)) ∙ sym (ap (λ b. cond b (test t) (tag_passes test q tags)) hit))
       (λ miss. ap (λ o. option_map_or test o false) (set_other tags q k t (differ q k miss)) ∙ sym (ap (λ b. cond b (test t) (tag_passes test q tags)) miss))
@@ -60,22 +61,26 @@ module _ {V : Type 0} where
   abbrev pub passes : (V → Bool) → ℕ → List (ℕ × V) → Bool
   passes test k es = option_map_or test (lookup (nat_eq k) es) false
 
-  lookup-behind : (q k : ℕ) (front behind : List (ℕ × V)) (v : V) → nat_eq q k ≡ false → lookup (nat_eq q) (front ++ behind) ≡ lookup (nat_eq q) (front ++ (k, v) ∷ behind)
+  lookup-behind : (q k : ℕ) (front behind : List (ℕ × V)) (v : V) → nat_eq q k ≡ false
+      → lookup (nat_eq q) (front ++ behind) ≡ lookup (nat_eq q) (front ++ (k, v) ∷ behind)
   lookup-behind q k [] behind v miss = sym (ap (λ b. cond b (Some v) (lookup (nat_eq q) behind)) miss)
   lookup-behind q k (e ∷ front) behind v miss = ap (λ o. cond (nat_eq q e.0) (Some e.1) o) (lookup-behind q k front behind v miss)
 
   -- after a slot was moved to the front and changed
-  pub passes_put : (test : V → Bool) (q k : ℕ) (es : List (ℕ × V)) (v w : V) → lookup (nat_eq k) es ≡ Some v → passes test q (set_value (nat_eq k) (moved k es) w) ≡ cond (nat_eq q k) (test w) (passes test q es)
+  pub passes_put : (test : V → Bool) (q k : ℕ) (es : List (ℕ × V)) (v w : V) → lookup (nat_eq k) es ≡ Some v
+      → passes test q (set_value (nat_eq k) (moved k es) w) ≡ cond (nat_eq q k) (test w) (passes test q es)
   passes_put test q k es v w there = let s = split k es v there in ap (passes test q) (moved_and_set k es v w s) ∙ by_number s
     where
       by_number : (s : Split k es v) → passes test q ((k, w) ∷ (s.front ++ s.behind)) ≡ cond (nat_eq q k) (test w) (passes test q es)
       by_number s = pick (nat_eq q k)
           (λ hit. ap (λ b. option_map_or test (cond b (Some w) (lookup (nat_eq q) (s.front ++ s.behind))) false) hit ∙ sym (ap (λ b. cond b (test w) (passes test q es)) hit))
           (λ miss. ap (λ b. option_map_or test (cond b (Some w) (lookup (nat_eq q) (s.front ++ s.behind))) false) miss
-          ∙ ap (λ o. option_map_or test o false) (lookup-behind q k s.front s.behind v miss ∙ ap (lookup (nat_eq q)) (sym s.is)) ∙ sym (ap (λ b. cond b (test w) (passes test q es)) miss))
+          ∙ ap (λ o. option_map_or test o false) (lookup-behind q k s.front s.behind v miss ∙ ap (lookup (nat_eq q)) (sym s.is))
+          ∙ sym (ap (λ b. cond b (test w) (passes test q es)) miss))
 
   -- after a slot was changed in its place
-  pub passes_set : (test : V → Bool) (q k : ℕ) (es : List (ℕ × V)) (v w : V) → lookup (nat_eq k) es ≡ Some v → passes test q (set_value (nat_eq k) es w) ≡ cond (nat_eq q k) (test w) (passes test q es)
+  pub passes_set : (test : V → Bool) (q k : ℕ) (es : List (ℕ × V)) (v w : V) → lookup (nat_eq k) es ≡ Some v
+      → passes test q (set_value (nat_eq k) es w) ≡ cond (nat_eq q k) (test w) (passes test q es)
   passes_set test q k es v w there = let s = split k es v there in ap (passes test q) (set_in_place k es v w s) ∙ by_number s
     where
       by_number : (s : Split k es v) → passes test q (s.front ++ (k, w) ∷ s.behind) ≡ cond (nat_eq q k) (test w) (passes test q es)
@@ -90,13 +95,15 @@ module _ {V : Type 0} where
   passes_at test k es v there = ap (λ o. option_map_or test o false) (sym there)
 
   -- after a slot was moved to the front
-  pub passes_kept : (test : V → Bool) (q k : ℕ) (es : List (ℕ × V)) (v : V) → lookup (nat_eq k) es ≡ Some v → passes test q (set_value (nat_eq k) (moved k es) v) ≡ passes test q es
+  pub passes_kept : (test : V → Bool) (q k : ℕ) (es : List (ℕ × V)) (v : V) → lookup (nat_eq k) es ≡ Some v
+      → passes test q (set_value (nat_eq k) (moved k es) v) ≡ passes test q es
   passes_kept test q k es v there = passes_put test q k es v v there ∙ pick (nat_eq q k)
       (λ hit. ap (λ b. cond b (test v) (passes test q es)) hit ∙ subst (λ n. test v ≡ passes test n es) (is_number q k hit) (passes_at test k es v there))
       (λ miss. ap (λ b. cond b (test v) (passes test q es)) miss)
 
   -- where no slot passes, a search finds none
-  pub none_found : (n : ℕ) (test : V → Bool) (es : List (ℕ × V)) → AreSlots n es → ((k : ℕ) → k < n → passes test k es ≡ false) → find (λ slot. test slot.1) es ≡ None
+  pub none_found : (n : ℕ) (test : V → Bool) (es : List (ℕ × V)) → AreSlots n es → ((k : ℕ) → k < n → passes test k es ≡ false)
+      → find (λ slot. test slot.1) es ≡ None
   none_found n test es a none = by_slot (find (λ slot. test slot.1) es) refl
     where
       clash : true ≡ false → ⊥
@@ -115,7 +122,8 @@ module _ {V : Type 0} where
           absurd (clash (sym f.passes ∙ passes_at test e.0 es e.1 there ∙ none e.0 (inside f.front f.behind e (subst (λ l. All (λ k. k < n) (keys_of l)) f.is a.below))))
 
   -- the only slot that passes is the one that a search finds
-  pub only_found : (n : ℕ) (test : V → Bool) (k : ℕ) (es : List (ℕ × V)) → AreSlots n es → ((j : ℕ) → passes test j es ≡ true → j ≡ k) → passes test k es ≡ true → Some k ≡ option_map (λ (slot : ℕ × V). slot.0) (find (λ slot. test slot.1) es)
+  pub only_found : (n : ℕ) (test : V → Bool) (k : ℕ) (es : List (ℕ × V)) → AreSlots n es → ((j : ℕ) → passes test j es ≡ true → j ≡ k) → passes test k es ≡ true
+      → Some k ≡ option_map (λ (slot : ℕ × V). slot.0) (find (λ slot. test slot.1) es)
   only_found n test k es a only hit = by_slot (find (λ slot. test slot.1) es) refl
     where
       clash : true ≡ false → ⊥
@@ -154,24 +162,31 @@ module _ {V T : Type 0} (tag : V → T) where
   within tags k es v is there = present tags k (is (λ _. true) k ∙ sym (passes_at (λ _. true) k es v there))
 
   -- what a tag says is what its slot's says
-  pub says : (tags : List T) (test : T → Bool) (k : ℕ) (t : T) (es : List (ℕ × V)) → Agree tags es → Some t ≡ slice_get tags k → passes (λ v. test (tag v)) k es ≡ test t
+  pub says : (tags : List T) (test : T → Bool) (k : ℕ) (t : T) (es : List (ℕ × V)) → Agree tags es → Some t ≡ slice_get tags k
+      → passes (λ v. test (tag v)) k es ≡ test t
   says tags test k t es is there = sym (is test k) ∙ ap (λ o. option_map_or test o false) (sym there)
 
-  pub agree_set : (tags : List T) (k i : ℕ) (t : T) (es : List (ℕ × V)) (v w : V) → i ≡ k → Agree tags es → lookup (nat_eq k) es ≡ Some v → tag w ≡ t → Agree (slice_set tags i t) (set_value (nat_eq k) es w)
+  pub agree_set : (tags : List T) (k i : ℕ) (t : T) (es : List (ℕ × V)) (v w : V) → i ≡ k → Agree tags es → lookup (nat_eq k) es ≡ Some v → tag w ≡ t
+      → Agree (slice_set tags i t) (set_value (nat_eq k) es w)
   agree_set tags k i t es v w same is there new = subst (λ n. Agree (slice_set tags n t) (set_value (nat_eq k) es w)) (sym same) (λ test q.
-      tag_set test tags q k t (within tags k es v is there) ∙ ap (λ b. cond (nat_eq q k) (test t) b) (is test q) ∙ ap (λ x. cond (nat_eq q k) (test x) (passes (λ u. test (tag u)) q es)) (sym new)
+      tag_set test tags q k t (within tags k es v is there) ∙ ap (λ b. cond (nat_eq q k) (test t) b) (is test q)
+      ∙ ap (λ x. cond (nat_eq q k) (test x) (passes (λ u. test (tag u)) q es)) (sym new)
       ∙ sym (passes_set (λ u. test (tag u)) q k es v w there))
 
-  pub agree_put : (tags : List T) (k i : ℕ) (t : T) (es : List (ℕ × V)) (v w : V) → i ≡ k → Agree tags es → lookup (nat_eq k) es ≡ Some v → tag w ≡ t → Agree (slice_set tags i t) (set_value (nat_eq k) (moved k es) w)
+  pub agree_put : (tags : List T) (k i : ℕ) (t : T) (es : List (ℕ × V)) (v w : V) → i ≡ k → Agree tags es → lookup (nat_eq k) es ≡ Some v → tag w ≡ t
+      → Agree (slice_set tags i t) (set_value (nat_eq k) (moved k es) w)
   agree_put tags k i t es v w same is there new = subst (λ n. Agree (slice_set tags n t) (set_value (nat_eq k) (moved k es) w)) (sym same) (λ test q.
-      tag_set test tags q k t (within tags k es v is there) ∙ ap (λ b. cond (nat_eq q k) (test t) b) (is test q) ∙ ap (λ x. cond (nat_eq q k) (test x) (passes (λ u. test (tag u)) q es)) (sym new)
+      tag_set test tags q k t (within tags k es v is there) ∙ ap (λ b. cond (nat_eq q k) (test t) b) (is test q)
+      ∙ ap (λ x. cond (nat_eq q k) (test x) (passes (λ u. test (tag u)) q es)) (sym new)
       ∙ sym (passes_put (λ u. test (tag u)) q k es v w there))
 
-  pub agree_kept : (tags : List T) (k : ℕ) (es : List (ℕ × V)) (v : V) → Agree tags es → lookup (nat_eq k) es ≡ Some v → Agree tags (set_value (nat_eq k) (moved k es) v)
+  pub agree_kept : (tags : List T) (k : ℕ) (es : List (ℕ × V)) (v : V) → Agree tags es → lookup (nat_eq k) es ≡ Some v
+      → Agree tags (set_value (nat_eq k) (moved k es) v)
   agree_kept tags k es v is there = λ test q. is test q ∙ sym (passes_kept (λ u. test (tag u)) q k es v there)
 
   -- a slot more, with the next number
-  pub agree_more : (tags : List T) (k : ℕ) (t : T) (es : List (ℕ × V)) (v : V) → Agree tags es → length tags ≡ k → tag v ≡ t → Agree (tags ++ t ∷ []) ((k, v) ∷ es)
+  pub agree_more : (tags : List T) (k : ℕ) (t : T) (es : List (ℕ × V)) (v : V) → Agree tags es → length tags ≡ k → tag v ≡ t
+      → Agree (tags ++ t ∷ []) ((k, v) ∷ es)
   agree_more tags k t es v is count new = λ test q. pick (nat_eq q k)
       (λ hit. subst (λ n. tag_passes test n (tags ++ t ∷ []) ≡ test t) (count ∙ is_number q k hit) (ap (λ o. option_map_or test o false) (pushed_same tags t)) ∙ ap test (sym new)
       ∙ sym (ap (λ b. option_map_or (λ u. test (tag u)) (cond b (Some v) (lookup (nat_eq q) es)) false) hit))
@@ -191,7 +206,8 @@ module _ {V : Type 0} (see : V → Option Page) where
       once file number i j (sym (passes_kept (shows file number) i k es v there) ∙ one) (sym (passes_kept (shows file number) j k es v there) ∙ other)
 
   -- a slot that was changed shows no other page than before
-  pub once_set : (k : ℕ) (es : List (ℕ × V)) (v w : V) → Once es → lookup (nat_eq k) es ≡ Some v → ((file : File) (number : ℕ) → shows file number w ≡ true → shows file number v ≡ true) → Once (set_value (nat_eq k) es w)
+  pub once_set : (k : ℕ) (es : List (ℕ × V)) (v w : V) → Once es → lookup (nat_eq k) es ≡ Some v
+      → ((file : File) (number : ℕ) → shows file number w ≡ true → shows file number v ≡ true) → Once (set_value (nat_eq k) es w)
   once_set k es v w once there fewer = λ file number i j one other. once file number i j (before file number i one) (before file number j other)
     where
       before : (file : File) (number q : ℕ) → passes (shows file number) q (set_value (nat_eq k) es w) ≡ true → passes (shows file number) q es ≡ true
@@ -224,7 +240,8 @@ module _ {V : Type 0} (see : V → Option Page) where
           ap (list_any (λ slot. shows file number slot.1)) s.is ∙ among s.front s.behind v (passes_at (shows file number) k es v there ∙ hit)
 
   -- a slot that was moved to the front got a page that no slot had
-  pub once_put : (k : ℕ) (es : List (ℕ × V)) (v w : V) → Once es → lookup (nat_eq k) es ≡ Some v → ForSome (see w) (λ new. is_held new.file new.number (held see es) ≡ false) → Once (set_value (nat_eq k) (moved k es) w)
+  pub once_put : (k : ℕ) (es : List (ℕ × V)) (v w : V) → Once es → lookup (nat_eq k) es ≡ Some v
+      → ForSome (see w) (λ new. is_held new.file new.number (held see es) ≡ false) → Once (set_value (nat_eq k) (moved k es) w)
   once_put k es v w once there new = λ file number i j one other. pick (nat_eq i k)
       (λ hit. pick (nat_eq j k) (λ same. sym (is_number i k hit) ∙ is_number j k same) (λ miss. absurd (never file number j (put_hit file number i hit one) (put_miss file number j miss other))))
       (λ miss. pick (nat_eq j k) (λ hit. absurd (never file number i (put_hit file number j hit other) (put_miss file number i miss one))) (λ other_miss. once file number i j (put_miss file number i miss one) (put_miss file number j other_miss other)))
@@ -232,11 +249,15 @@ module _ {V : Type 0} (see : V → Option Page) where
       clash : true ≡ false → ⊥
       clash c = cc
 
-      put_hit : (file : File) (number q : ℕ) → nat_eq q k ≡ true → passes (shows file number) q (set_value (nat_eq k) (moved k es) w) ≡ true → shows file number w ≡ true
-      put_hit file number q hit e = sym (ap (λ b. cond b (shows file number w) (passes (shows file number) q es)) hit) ∙ sym (passes_put (shows file number) q k es v w there) ∙ e
+      put_hit : (file : File) (number q : ℕ) → nat_eq q k ≡ true → passes (shows file number) q (set_value (nat_eq k) (moved k es) w) ≡ true
+          → shows file number w ≡ true
+      put_hit file number q hit e = sym (ap (λ b. cond b (shows file number w) (passes (shows file number) q es)) hit)
+          ∙ sym (passes_put (shows file number) q k es v w there) ∙ e
 
-      put_miss : (file : File) (number q : ℕ) → nat_eq q k ≡ false → passes (shows file number) q (set_value (nat_eq k) (moved k es) w) ≡ true → passes (shows file number) q es ≡ true
-      put_miss file number q miss e = sym (ap (λ b. cond b (shows file number w) (passes (shows file number) q es)) miss) ∙ sym (passes_put (shows file number) q k es v w there) ∙ e
+      put_miss : (file : File) (number q : ℕ) → nat_eq q k ≡ false → passes (shows file number) q (set_value (nat_eq k) (moved k es) w) ≡ true
+          → passes (shows file number) q es ≡ true
+      put_miss file number q miss e = sym (ap (λ b. cond b (shows file number w) (passes (shows file number) q es)) miss)
+          ∙ sym (passes_put (shows file number) q k es v w there) ∙ e
 
       never : (file : File) (number q : ℕ) → shows file number w ≡ true → passes (shows file number) q es ≡ true → ⊥
       never file number q shown_now before =
@@ -265,10 +286,13 @@ below_next k n less miss = grind (arith, nat_tests)
 any_take : (test : Page → Bool) (k : ℕ) (l : List Page) → list_any test l ≡ false → list_any test (take k l) ≡ false
 any_take test zero l none = refl
 any_take test (suc k) [] none = refl
-any_take test (suc k) (p ∷ l) none = let parts = none_of (test p) (list_any test l) none in ap (λ b. b || list_any test (take k l)) parts.0 ∙ any_take test k l parts.1
+any_take test (suc k) (p ∷ l) none = let parts = none_of (test p) (list_any test l) none in ap (λ b. b || list_any test (take k l)) parts.0
+    ∙ any_take test k l parts.1
 
 -- a page that wasn't held isn't after one was dropped
-pub still_missing : (file : File) (number places : ℕ) (l : List Page) (p : Page) → is_held file number l ≡ false → is_page file number p ≡ true → is_held p.file p.number (dropped places l) ≡ false
+pub still_missing : (file : File) (number places : ℕ) (l : List Page) (p : Page) → is_held file number l ≡ false → is_page file number p ≡ true
+    → is_held p.file p.number (dropped places l) ≡ false
 still_missing file number places l p none is =
     let name = named file number p is in
-    ap (λ f. is_held f p.number (dropped places l)) name.0 ∙ ap (λ n. is_held file n (dropped places l)) name.1 ∙ any_take (is_page file number) (places - 1) l none
+    ap (λ f. is_held f p.number (dropped places l)) name.0 ∙ ap (λ n. is_held file n (dropped places l)) name.1
+    ∙ any_take (is_page file number) (places - 1) l none

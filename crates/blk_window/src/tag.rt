@@ -1,6 +1,5 @@
 // The tag of a slot: which page it holds, without the bytes.
 ghost use Rattle.std.specs.Prelude.{◌≡◌, ◌-◌, ◌<◌, ◌≤◌, ◌^◌, ◌&&◌, nat_lt, false, length};
-ghost use Rattle.spec_image.specs.Image.{same_file};
 ghost use Rattle.blk_io.specs.FileNames.{file_of};
 
 use blk_io::FileId;

@@ -1,4 +1,4 @@
-use Rattle.std.proofs.Common.{◌≡◌, ◌+◌, ℕ, ◌<◌, false, nat_eq, sym, ◌∙◌, ap, subst, arith}
+use Rattle.std.proofs.Common.{◌≡◌, ℕ, false, nat_eq, sym, ◌∙◌, ap, subst, arith}
 use Rattle.std.specs.Option.{option_map}
 use Rattle.blk_io.specs.FileNames.{file_of}
 use Rattle.blk_window.specs.Slots.{shows, does_pass}
@@ -27,11 +27,11 @@ loop-slot-preserved c =
     let n = c.loop-slot.slot in
     let miss = tag_shows p file c.args.number n c.tag.result c.tag.ensures ∙ sym c.shows.ensures ∙ c.if-shows.false in
     λ k less. pick (nat_eq k n)
-        (λ hit. subst (λ (m : ℕ). does_pass (shows file c.args.number) m p.slots.entries ≡ false) (is_number k n hit) miss)
-        (λ other. c.loop-slot.invariant k (below_next k n less other))
+    (λ hit. subst (λ (m : ℕ). does_pass (shows file c.args.number) m p.slots.entries ≡ false) (is_number k n hit) miss)
+    (λ other. c.loop-slot.invariant k (below_next k n less other))
 
 pub returns : goal.returns
 returns c =
     let p = c.args.self.now in
     ap (option_map _) (sym (none_found p.slots.cap (shows (file_of c.args.file) c.args.number) p.slots.entries (slots_of p)
-        (λ k less. c.loop-slot.invariant k (omega (arith, less, c.loop-slot.auto.slot-end, c.loop-slot-test.false, c.get-slot-end.ensures.value, c.cap.ensures)))))
+    (λ k less. c.loop-slot.invariant k (omega (arith, less, c.loop-slot.auto.slot-end, c.loop-slot-test.false, c.get-slot-end.ensures.value, c.cap.ensures)))))
