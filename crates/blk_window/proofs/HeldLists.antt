@@ -12,6 +12,7 @@ use Rattle.spec_image.specs.Image.{File, same_file}
 use Rattle.spec_image.proofs.Images.{same_file-true}
 use Rattle.blk_window.specs.Held.{Page, is_page, page_in, is_held, without, used, dropped}
 use Rattle.std.proofs.lemmas.Map.{keys-set_value}
+use Rattle.std.proofs.lemmas.Map.Steps.{set_value_same}
 use Rattle.blk_window.proofs.Lists.{pick, none_of, is_number, Split, split, AreSlots, Found, found, split_found, apart, lookup-split, moved, moved_and_set, set_in_place, slots_moved, slots_same, keys_moved}
 
 both : (a b : Bool) → (a && b) ≡ true → (a ≡ true) × (b ≡ true)
@@ -305,25 +306,12 @@ module _ {V : Type 0} (see : V → Option Page) where
   turns_none k change old es is none = is ∙ turned-skip k change (sights see old) (ap (lookup (nat_eq k)) (sym is) ∙ sights-lookup see k es ∙ ap (option_map see) none)
 
   -- a slot that the change leaves as it is
-  pub turns_left : (k : ℕ) (change : Page → Option Page) (old es : List (ℕ × V)) → sights see es ≡ turned k change (sights see old) → All (λ slot. k ≡ slot.0 → option_and_then change (see slot.1) ≡ see slot.1) old → sights see es ≡ turned (k + 1) change (sights see old)
-  turns_left k change old es is left = is ∙ alone old left
+  pub turns_left : (k n : ℕ) (change : Page → Option Page) (old es : List (ℕ × V)) → AreSlots n old → sights see es ≡ turned k change (sights see old) → ((v : V) → lookup (nat_eq k) es ≡ Some v → option_and_then change (see v) ≡ see v) → sights see es ≡ turned (k + 1) change (sights see old)
+  turns_left k n change old es a is left = by_value (lookup (nat_eq k) es) refl
     where
-      same : (b c : Bool) (x y : Option Page) → x ≡ y → (if b then x else y) ≡ (if c then x else y)
-      same true true x y e = refl
-      same true false x y e = e
-      same false true x y e = sym e
-      same false false x y e = refl
-
-      value : (e : ℕ × V) → (k ≡ e.0 → option_and_then change (see e.1) ≡ see e.1) → (if nat_lt e.0 k then option_and_then change (see e.1) else see e.1) ≡ (if nat_lt e.0 (k + 1) then option_and_then change (see e.1) else see e.1)
-      value e leaves = pick (nat_eq k e.0)
-          (λ hit. same (nat_lt e.0 k) (nat_lt e.0 (k + 1)) (option_and_then change (see e.1)) (see e.1) (leaves (sym (is_number k e.0 hit))))
-          (λ miss. ap (λ b. if b then option_and_then change (see e.1) else see e.1) (at_all (e.0, see e.1) k miss))
-
-      alone : (xs : List (ℕ × V)) → All (λ slot. k ≡ slot.0 → option_and_then change (see slot.1) ≡ see slot.1) xs → turned k change (sights see xs) ≡ turned (k + 1) change (sights see xs)
-      alone [] all = refl
-      alone (e ∷ xs) all =
-          ap (λ v. (e.0, v) ∷ turned k change (sights see xs)) (value e (all 0 e (omega arith)))
-          ∙ ap (λ l. (e.0, if nat_lt e.0 (k + 1) then option_and_then change (see e.1) else see e.1) ∷ l) (alone xs (λ i d within. all (suc i) d (omega (arith, within))))
+      by_value : (o : Option V) → lookup (nat_eq k) es ≡ o → sights see es ≡ turned (k + 1) change (sights see old)
+      by_value None there = turns_none k change old es is there
+      by_value (Some v) there = ap (sights see) (sym (set_value_same (nat_eq k) es v there)) ∙ turns k n change old es v v a is there (sym (left v there))
 
   pub turned_pages : (n : ℕ) (change : Page → Option Page) (old es : List (ℕ × V)) → AreSlots n old → sights see es ≡ turned n change (sights see old) → filter_map (λ slot. see slot.1) es ≡ filter_map change (filter_map (λ slot. see slot.1) old)
   turned_pages n change old es a is =

@@ -1,5 +1,6 @@
 pub mod Lists
 pub mod HeldLists
+pub mod Tagging
 pub mod PageSlots
 pub mod Overwriting
 pub mod Agreeing

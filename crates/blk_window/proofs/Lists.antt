@@ -1,15 +1,14 @@
 -- Lists of numbered slots: a search by number or by content, and what moving or changing a slot leaves.
-use Rattle.std.proofs.Common.{◌≡◌, ℕ, zero, suc, ◌+◌, ◌-◌, ◌<◌, Bool, true, false, ◌||◌, nat_eq, slice_index_or, slice_set, cond, List, [], ◌∷◌, ◌++◌, length, take, Option, None, Some, refl, sym, ◌∙◌, ap, subst, arith, option_map}
+use Rattle.std.proofs.Common.{◌≡◌, ℕ, suc, ◌+◌, ◌-◌, ◌<◌, Bool, true, false, ◌||◌, nat_eq, cond, List, [], ◌∷◌, ◌++◌, length, take, Option, None, Some, refl, sym, ◌∙◌, ap, subst, arith, option_map}
 use Rattle.std.specs.Option.{option_map_or}
 use Rattle.std.specs.List.{All, IsDistinct, AllByRecursion, find, list_any}
 use Rattle.std.specs.List.Sorted.{IsPermutation}
 use Rattle.std.specs.Map.{keys_of, lookup, lookup_entry, remove_entry, set_value}
 use Rattle.std.proofs.lemmas.Bool.Decides.{nat_tests}
-use Rattle.std.proofs.lemmas.Grind.{get_or-set_at}
-use Rattle.std.proofs.lemmas.List.{append-nil, take_all}
+use Rattle.std.proofs.lemmas.List.{take_all}
 use Rattle.std.proofs.lemmas.List.Sorted.{IsPermutation-append, IsPermutation-to_front, IsPermutation-refl, All-permutation, length_permutation}
 use Rattle.std.proofs.lemmas.Map.Keys.{IsDistinct-IsPermutation, IsDistinct-head, IsDistinct-tail, IsDistinct-cons}
-use Rattle.std.proofs.lemmas.List.Elements.{All-append, All-cons, All-nil}
+use Rattle.std.proofs.lemmas.List.Elements.{All-cons}
 use Rattle.lru.specs.LruCache.{lru_cache, put_entries}
 
 -- both answers of a test
@@ -207,55 +206,3 @@ module _ {V : Type 0} where
   pub no_slots : AreSlots 0 []
   unfolding IsDistinct
   no_slots = record { count = refl; distinct = tt; below = λ i d within. absurd (omega arith) }
-
--- the entries that were gone by, of which each is as it is to be
-pub record GoneBy {E : Type 0} (P : E → Type 0) (all left : List E) : Type 0 where
-  pub done : List E
-  pub is : all ≡ done ++ left
-  pub each : All P done
-
-module _ {E : Type 0} where
-  pub none_yet : (P : E → Type 0) (all left : List E) → all ≡ left → GoneBy P all left
-  none_yet P all left is = record { done = []; is = is; each = All-nil P }
-
-  -- one entry more, after which each of those before is still as it is to be
-  pub one_by : (P Q : E → Type 0) (all left : List E) (x : E) (rest : List E) → GoneBy P all left → left ≡ x ∷ rest → ((y : E) → P y → Q y) → Q x → GoneBy Q all rest
-  one_by P Q all left x rest by is still new = record {
-    done = by.done ++ x ∷ [];
-    is = by.is ∙ ap (λ l. by.done ++ l) is ∙ joined by.done;
-    each = All-append Q by.done (x ∷ []) (λ i d within. still _ (by.each i d within)) (All-cons Q x [] new (All-nil Q));
-  }
-    where
-      joined : (l : List E) → l ++ x ∷ rest ≡ (l ++ x ∷ []) ++ rest
-      joined [] = refl
-      joined (y ∷ l) = ap (λ m. y ∷ m) (joined l)
-
-  pub all_by : (P : E → Type 0) (all left : List E) → GoneBy P all left → left ≡ [] → All P all
-  all_by P all left by is = subst (All P) (sym (by.is ∙ ap (λ l. by.done ++ l) is ∙ append-nil by.done)) by.each
-
-module _ {V : Type 0} where
-  -- the number of the entry that comes next
-  pub next_below : (n : ℕ) (P : ℕ × V → Type 0) (all left : List (ℕ × V)) (x : ℕ × V) (rest : List (ℕ × V)) → AreSlots n all → GoneBy P all left → left ≡ x ∷ rest → x.0 < n
-  next_below n P all left x rest a by is = inside by.done (subst (λ l. All (λ k. k < n) (keys_of l)) (by.is ∙ ap (λ l. by.done ++ l) is) a.below)
-    where
-      inside : (l : List (ℕ × V)) → All (λ k. k < n) (keys_of (l ++ x ∷ rest)) → x.0 < n
-      inside [] below = below 0 0 (omega arith)
-      inside (y ∷ l) below = inside l (λ i d within. below (suc i) d (omega (arith, within)))
-
--- a note that isn't made after another one was, wasn't made before
-pub unmade : (notes : List Bool) (k j : ℕ) → slice_index_or (slice_set notes k true) j false ≡ false → slice_index_or notes j false ≡ false
-unmade [] k j e = refl
-unmade (b ∷ notes) zero zero e = absurd (clash e)
-  where
-    clash : true ≡ false → ⊥
-    clash c = cc
-unmade (b ∷ notes) zero (suc j) e = e
-unmade (b ∷ notes) (suc k) zero e = e
-unmade (b ∷ notes) (suc k) (suc j) e = unmade notes k j e
-
--- a note that was made is there
-pub made : (notes : List Bool) (k j : ℕ) → k < length notes → k ≡ j → slice_index_or (slice_set notes k true) j false ≡ false → ⊥
-made notes k j within is e = clash (sym (get_or-set_at notes k j true false (sym is) within) ∙ e)
-  where
-    clash : true ≡ false → ⊥
-    clash c = cc

@@ -1,4 +1,5 @@
 pub mod Held
+pub mod Tags
 pub mod Slots
 pub mod Pages
 pub mod Reading

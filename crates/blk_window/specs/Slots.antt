@@ -1,15 +1,17 @@
 -- The slots of a page cache, in the order of their last use.
-use Rattle.std.specs.Prelude.{◌≡◌, ℕ, ◌-◌, Bool, false, if◌then◌else◌, List, [], ◌∷◌, length, take, drop, min, Option, None, Some, is_some}
+use Rattle.std.specs.Prelude.{◌≡◌, ℕ, ◌-◌, Bool, true, false, nat_eq, if◌then◌else◌, List, [], ◌∷◌, length, take, drop, min, Option, is_some, slice_get}
 use Rattle.std.specs.Option.{option_map_or}
 use Rattle.std.specs.List.{filter_map}
+use Rattle.std.specs.Map.{lookup}
 use Rattle.spec_image.specs.Image.{File}
-use Rattle.blk_io.specs.FileNames.{file_of}
 use Rattle.blk_window.specs.Held as held
+use Rattle.blk_window.specs.Tags.{page_of}
 use Rattle.blk_window.specs.declared.page.Page.{Page}
+use Rattle.blk_window.specs.declared.tag.Tag.{Tag}
 
 -- the page in a slot, or None where the slot is free
 abbrev pub seen : Page → Option held.Page
-seen page = if page.is_held then Some (record { file = file_of page.file; number = page.number; bytes = take page.count page.bytes.items }) else None
+seen page = page_of page.tag page.bytes.items
 
 -- the slot has the page of this file with this number
 abbrev pub shows : File → ℕ → Page → Bool
@@ -18,6 +20,18 @@ shows file number page = option_map_or (held.is_page file number) (seen page) fa
 -- the pages in these slots, in order
 abbrev pub held_in : List (ℕ × Page) → List held.Page
 held_in slots = filter_map (λ slot. seen slot.1) slots
+
+-- the slot with this number exists and passes a test
+abbrev pub does_pass : (Page → Bool) → ℕ → List (ℕ × Page) → Bool
+does_pass test slot slots = option_map_or test (lookup (nat_eq slot) slots) false
+
+-- each test of the tag with a number answers as one of the slot with that number does
+abbrev pub AreTags : List Tag → List (ℕ × Page) → Type 0
+AreTags tags slots = (test : Tag → Bool) (slot : ℕ) → option_map_or test (slice_get tags slot) false ≡ does_pass (λ page. test page.tag) slot slots
+
+-- no two slots have the same page
+abbrev pub HoldsOnce : List (ℕ × Page) → Type 0
+HoldsOnce slots = (file : File) (number one other : ℕ) → does_pass (shows file number) one slots ≡ true → does_pass (shows file number) other slots ≡ true → one ≡ other
 
 -- the number of the slot for a new page: the first free one, or else the last of all (and `last` where there are no slots)
 abbrev pub giving_way : ℕ → List (ℕ × Page) → ℕ

@@ -5,6 +5,7 @@
 
 mod page;
 mod pages;
+mod tag;
 mod window;
 
 pub use window::Window;

@@ -1,5 +1,5 @@
 // The slots of a window, in the order of their use.
-ghost use Rattle.std.specs.Prelude.{◌≡◌, false, [], ◌∷◌, ◌+◌, ◌-◌, ◌*◌, ◌<◌, ◌≤◌, ◌%◌, length, Some, None, IfOk, IfSome, IfNone, is_none, is_some, nat_eq, slice_index_or, option_and_then};
+ghost use Rattle.std.specs.Prelude.{◌≡◌, false, [], ◌∷◌, ◌+◌, ◌<◌, ◌≤◌, ◌%◌, length, Some, None, IfOk, IfSome, IfNone, is_none, is_some, nat_eq, slice_get};
 ghost use Rattle.std.specs.Option.{ForSome, option_map};
 ghost use Rattle.std.specs.List.{All, IsDistinct, filter_map, find};
 ghost use Rattle.std.specs.Map.{keys_of};
@@ -7,26 +7,30 @@ ghost use Rattle.blk_io.specs.FileNames.{file_of};
 ghost use Rattle.std.proofs.Props.{props};
 ghost use Rattle.lru.specs.LruCache.{last_entry};
 ghost use Rattle.blk_window.specs.Held.{is_held, page_in, page_at, used, dropped, unless_of, written};
+ghost use Rattle.blk_window.specs.Slots.{AreTags, HoldsOnce};
 
-use crate::page::{PAGE_SIZE, Page};
+use crate::page::Page;
+use crate::tag::{PAGE_SIZE, Tag};
 use blk_io::FileId;
 use lru::LruCache;
 use std::alloc::{AllocError, Global};
 use std::mem;
 use std::num::NonZeroUsize;
 
-// How many slots there are at the most.
-const MOST_SLOTS: usize = 4096;
-
 /// The slots of a window, which are all made at the start. Each has a number, and they are in the order of their use.
 #[derive(Drop)]
 pub struct Pages {
     slots: LruCache<u16, Page>,
+    // The tag of each slot, by its number: a search goes over these, and not from slot to slot.
+    tags: Vec<Tag>,
     ghost some: { 0 < slots.cap },
     ghost few: { slots.cap ≤ 4096 },
     ghost count: { length slots.entries ≡ slots.cap },
     ghost distinct: { IsDistinct nat_eq (keys_of slots.entries) } by { Prim.hlevel props },
     ghost below: { All (λ number. number < slots.cap) (keys_of slots.entries) },
+    ghost each: { length tags.items ≡ slots.cap },
+    ghost tagged: { AreTags tags.items slots.entries },
+    ghost once: { HoldsOnce slots.entries },
 }
 
 impl Pages {
@@ -42,10 +46,13 @@ impl Pages {
     {
         let places = NonZeroUsize::new(usize::from(pages)).unwrap();
         let mut slots = LruCache::new(alloc, places)?;
+        let mut tags = Vec::new(alloc);
         for slot in 0..pages {
-            slots.put(slot, Page::new(alloc)?)?;
+            let page = Page::new(alloc)?;
+            tags.push(page.tag())?;
+            slots.put(slot, page)?;
         }
-        Ok(Pages { slots })
+        Ok(Pages { slots, tags })
     }
 
     /// Whether a page is held.
@@ -55,13 +62,21 @@ impl Pages {
         self.find(file, number).is_some()
     }
 
-    // The first slot that holds a page.
+    // The tag of a slot.
+    fn tag(&self, slot: u16) -> Tag
+        requires { slot < places_of self.now }
+        ensures { Some result ≡ slice_get self.now.tags.items slot }
+    {
+        self.tags[usize::from(slot)]
+    }
+
+    // The slot that holds a page.
     fn find(&self, file: FileId, number: u64) -> Option<u16>
         ensures { result ≡ option_map (λ slot. slot.0) (find (λ slot. shows (file_of file) number slot.1) self.now.slots.entries) }
     {
-        for (slot, page) in self.slots.iter() {
-            if page.shows(file, number) {
-                return Some(*slot);
+        for slot in 0..self.slots.cap().get() as u16 {
+            if self.tag(slot).shows(file, number) {
+                return Some(slot);
             }
         }
         None
@@ -125,18 +140,21 @@ impl Pages {
         let slot = self.giving_way();
         if let Some(page) = self.slots.peek_mut(&slot) {
             page.clear();
+            self.tags[usize::from(slot)] = page.tag();
         }
         slot
     }
 
-    /// Changes the page with a slot that is free. What the slot holds is the page that was used last then.
+    /// Changes the page, which is not held yet, with a slot that is free. What the slot holds is the page that was used last then.
     pub fn put(&mut self, slot: u16, page: &mut Page)
         requires free { IsSlotFree self.old slot }
+        requires new { ForSome (seen page.old) (λ new. is_held new.file new.number (held_of self.old) ≡ false) }
         ensures held { ForSome (seen page.old) (λ new. held_of self.new ≡ new ∷ held_of self.old) }
         ensures places { places_of self.new ≡ places_of self.old }
     {
         if let Some(place) = self.slots.get_mut(&slot) {
             mem::swap(place, page);
+            self.tags[usize::from(slot)] = place.tag();
         }
     }
 
@@ -146,24 +164,13 @@ impl Pages {
         ensures places { places_of self.new ≡ places_of self.old }
     {
         for slot in 0..self.slots.cap().get() as u16 {
-            if let Some(page) = self.slots.peek_mut(&slot) {
-                page.forget(file);
+            if self.tag(slot).is_of(file) {
+                if let Some(page) = self.slots.peek_mut(&slot) {
+                    page.forget(file);
+                    self.tags[usize::from(slot)] = page.tag();
+                }
             }
         }
-    }
-
-    // By the number of each slot, whether bytes that are written change what it holds.
-    fn touched(&self, file: FileId, at: u64, bytes: &[u8]) -> [bool; MOST_SLOTS]
-        ensures length { length result ≡ 4096 }
-        ensures left { All (λ slot. slice_index_or result slot.0 false ≡ false → option_and_then (written (file_of file) at bytes.now) (seen slot.1) ≡ seen slot.1) self.now.slots.entries }
-    {
-        let mut touched = [false; MOST_SLOTS];
-        for (slot, page) in self.slots.iter() {
-            if page.is_touched(file, at, bytes) {
-                touched[usize::from(*slot)] = true;
-            }
-        }
-        touched
     }
 
     /// Writes over bytes of the pages of a file.
@@ -171,11 +178,11 @@ impl Pages {
         ensures held { held_of self.new ≡ filter_map (written (file_of file) at bytes.now) (held_of self.old) }
         ensures places { places_of self.new ≡ places_of self.old }
     {
-        let touched = self.touched(file, at, bytes);
         for slot in 0..self.slots.cap().get() as u16 {
-            if touched[usize::from(slot)] {
+            if self.tag(slot).is_touched(file, at, bytes) {
                 if let Some(page) = self.slots.peek_mut(&slot) {
                     page.write(file, at, bytes);
+                    self.tags[usize::from(slot)] = page.tag();
                 }
             }
         }

@@ -12,8 +12,9 @@ ghost use Rattle.blk_window.specs.Held.{HoldsFileBytes, is_held, page_at, droppe
 ghost use Rattle.blk_window.specs.Pages.{held_of, places_of};
 ghost use Rattle.blk_window.specs.Reading.{ReadsPage};
 
-use crate::page::{PAGE_SIZE, Page};
+use crate::page::Page;
 use crate::pages::Pages;
+use crate::tag::PAGE_SIZE;
 use blk_io::{Failed, FileId, Folder};
 use std::alloc::{AllocError, Global};
 

@@ -1,11 +1,7 @@
-use Rattle.std.proofs.Common.{◌≡◌}
-use Rattle.std.specs.List.{find}
+use Rattle.std.proofs.Common.{◌≡◌, ℕ, ◌<◌, false}
 use Rattle.blk_io.specs.FileNames.{file_of}
-use Rattle.blk_window.specs.Slots.{shows}
+use Rattle.blk_window.specs.Slots.{shows, does_pass}
 use Rattle.blk_window.proofs.pages.Pages.find.Given as goal
 
 abbrev pub invariant-loop-slot : goal.invariant-loop-slot
-invariant-loop-slot l =
-    (goal.iterator-loop-slot).can_next l.slot-iterator
-    × (goal.iterator-loop-slot).is_finite l.slot-iterator
-    × (find (λ slot. shows (file_of l.file) l.number slot.1) l.slot-iterator ≡ find (λ slot. shows (file_of l.file) l.number slot.1) l.self.slots.entries)
+invariant-loop-slot l = (k : ℕ) → k < l.slot → does_pass (shows (file_of l.file) l.number) k l.self.slots.entries ≡ false

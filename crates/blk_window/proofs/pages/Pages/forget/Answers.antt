@@ -1,37 +1,61 @@
 use Rattle.std.proofs.Common.{◌≡◌, refl, sym, ◌∙◌, ap, arith}
 use Rattle.std.specs.Option.{option_copied_mut}
+use Rattle.std.proofs.lemmas.List.{length-set}
 use Rattle.blk_io.specs.FileNames.{file_of}
 use Rattle.blk_window.specs.Held.{unless_of}
 use Rattle.blk_window.specs.Slots.{seen}
 use Rattle.blk_window.specs.declared.pages.Pages.{Pages}
-use Rattle.blk_window.proofs.HeldLists.{sights, turned, turned-none, turns, turns_none, turned_pages, slots_set}
-use Rattle.blk_window.proofs.PageSlots.{slots_of}
-use Rattle.blk_window.proofs.pages.Pages.forget.Goals.{in-Some, in_default}
+use Rattle.blk_window.proofs.HeldLists.{sights, turned, turned-none, turns, turns_none, turns_left, turned_pages, slots_set}
+use Rattle.blk_window.proofs.PageSlots.{slots_of, tag_in, other_slot}
+use Rattle.blk_window.proofs.Overwriting.{fewer_by_drop}
+use Rattle.blk_window.proofs.Tagging.{agree_set, once_set}
+use Rattle.blk_window.proofs.pages.Pages.forget.Goals.{then-is_of+in-Some, then-is_of+in_default, else-is_of}
 use Rattle.blk_window.proofs.pages.Pages.forget.Goals as goal
 
 pub loop-slot-init : goal.loop-slot-init
 loop-slot-init c = (refl, sym (turned-none (unless_of (file_of c.args.file)) (sights seen c.args.self.now.slots.entries)))
 
+pub tag-requires : goal.tag-requires
+tag-requires c = omega (arith, c.loop-slot-test.true, c.get-slot-end.ensures.value, c.cap.ensures, c.loop-slot.invariant.0)
+
 pub invariant_of-self : goal.invariant_of-self
 invariant_of-self c =
     let now = c.loop-slot.self in
-    let a = slots_set seen now.slots.cap c.loop-slot.slot-counter now.slots.entries c.forget.new.self (slots_of now) in
-    record { some = now.some; few = now.few; count = a.count; distinct = a.distinct; below = a.below }
+    let k = c.loop-slot.slot-counter in
+    let there = sym c.peek_mut.ensures.value ∙ ap option_copied_mut c.in-Some.is in
+    let a = slots_set seen now.slots.cap k now.slots.entries c.forget.new.self (slots_of now) in
+    record {
+      some = now.some;
+      few = now.few;
+      count = a.count;
+      distinct = a.distinct;
+      below = a.below;
+      each = length-set now.tags.items c.from.result c.tag-in-Some.result ∙ now.each;
+      tagged = agree_set tag_in now.tags.items k c.from.result c.tag-in-Some.result now.slots.entries c.in-Some.page.now c.forget.new.self c.from.ensures now.tagged there (sym c.tag-in-Some.ensures);
+      once = once_set seen k now.slots.entries c.in-Some.page.now c.forget.new.self now.once there (fewer_by_drop (file_of c.args.file) (seen c.in-Some.page.now) (seen c.forget.new.self) c.forget.ensures);
+    }
 
 pub loop-slot-preserved : goal.loop-slot-preserved
 loop-slot-preserved c =
     let old = c.args.self.now in
     let now = c.loop-slot.self in
     let k = c.loop-slot.slot-counter in
-    elim c.match-peek_mut.branch [
-      | in-Some w ↦ (
+    let change = unless_of (file_of c.args.file) in
+    elim c.if-is_of.branch [
+      | then-is_of+in-Some w ↦ (
         ap (λ (p : Pages). p.slots.cap) w.self-is ∙ c.loop-slot.invariant.0,
         ap (λ (p : Pages). sights seen p.slots.entries) w.self-is
-            ∙ turns seen k old.slots.cap (unless_of (file_of c.args.file)) old.slots.entries now.slots.entries w.in-Some.page.now w.forget.new.self (slots_of old) c.loop-slot.invariant.1 (sym c.peek_mut.ensures.value ∙ ap option_copied_mut w.in-Some.is) w.forget.ensures,
+            ∙ turns seen k old.slots.cap change old.slots.entries now.slots.entries w.in-Some.page.now w.forget.new.self (slots_of old) c.loop-slot.invariant.1 (sym w.peek_mut.ensures.value ∙ ap option_copied_mut w.in-Some.is) w.forget.ensures,
       )
-      | in_default w ↦ (
+      | then-is_of+in_default w ↦ (
         ap (λ (p : Pages). p.slots.cap) w.self-is ∙ c.loop-slot.invariant.0,
-        ap (λ (p : Pages). sights seen p.slots.entries) w.self-is ∙ turns_none seen k (unless_of (file_of c.args.file)) old.slots.entries now.slots.entries c.loop-slot.invariant.1 (sym c.peek_mut.ensures.value ∙ ap option_copied_mut w.in_default.is),
+        ap (λ (p : Pages). sights seen p.slots.entries) w.self-is ∙ turns_none seen k change old.slots.entries now.slots.entries c.loop-slot.invariant.1 (sym w.peek_mut.ensures.value ∙ ap option_copied_mut w.in_default.is),
+      )
+      | else-is_of w ↦ (
+        ap (λ (p : Pages). p.slots.cap) w.self-is ∙ c.loop-slot.invariant.0,
+        ap (λ (p : Pages). sights seen p.slots.entries) w.self-is
+            ∙ turns_left seen k old.slots.cap change old.slots.entries now.slots.entries (slots_of old) c.loop-slot.invariant.1
+            (other_slot now (file_of c.args.file) k c.tag.result c.tag.ensures (sym c.is_of.ensures ∙ w.if-is_of.false)),
       )
     ]
 

@@ -4,7 +4,8 @@ use Rattle.blk_io.specs.FileNames.{file_of}
 use Rattle.blk_window.specs.Slots.{seen}
 use Rattle.blk_window.specs.declared.page.Page.{Page}
 use Rattle.blk_window.proofs.HeldLists.{shown_at, slots_put, found_is, reads}
-use Rattle.blk_window.proofs.PageSlots.{slots_of}
+use Rattle.blk_window.proofs.PageSlots.{slots_of, tag_in}
+use Rattle.blk_window.proofs.Tagging.{agree_kept, once_kept}
 use Rattle.blk_window.proofs.pages.Pages.read.Goals as goal
 
 clash : {P : Type 0} {page : Page} → None ≡ Some page → P
@@ -26,8 +27,18 @@ returns-in_err-page-clause-exact c =
 pub invariant_of-self-2 : goal.invariant_of-self-2
 invariant_of-self-2 c =
     let old = c.args.self.now in
-    let a = slots_put seen old.slots.cap c.in_ok-slot.slot old.slots.entries c.in_ok-page.page.now c.in_ok-page.page.now (slots_of old) (sym c.get_mut.ensures.value ∙ ap option_copied_mut c.in_ok-page.was) in
-    record { some = old.some; few = old.few; count = a.count; distinct = a.distinct; below = a.below }
+    let there = sym c.get_mut.ensures.value ∙ ap option_copied_mut c.in_ok-page.was in
+    let a = slots_put seen old.slots.cap c.in_ok-slot.slot old.slots.entries c.in_ok-page.page.now c.in_ok-page.page.now (slots_of old) there in
+    record {
+      some = old.some;
+      few = old.few;
+      count = a.count;
+      distinct = a.distinct;
+      below = a.below;
+      each = old.each;
+      tagged = agree_kept tag_in old.tags.items c.in_ok-slot.slot old.slots.entries c.in_ok-page.page.now old.tagged there;
+      once = once_kept seen c.in_ok-slot.slot old.slots.entries c.in_ok-page.page.now old.once there;
+    }
 
 pub returns-clause-exact : goal.returns-clause-exact
 returns-clause-exact c = found_is seen (file_of c.args.file) (c.args.at / 4096) c.args.self.now.slots.entries (Some c.in_ok-slot.slot) (sym c.in_ok-slot.was ∙ c.find.ensures)

@@ -1,11 +1,13 @@
-use Rattle.std.proofs.Common.{ℕ, ◌/◌, ◌%◌, ◌∷◌, List, sym, ◌∙◌, ap, subst}
+use Rattle.std.proofs.Common.{ℕ, ◌/◌, ◌%◌, ◌∷◌, List, Option, false, sym, ◌∙◌, ap, subst}
 use Rattle.std.specs.List.{All}
+use Rattle.std.specs.Option.{option_map_or}
 use Rattle.blk_io.specs.FileNames.{file_of}
-use Rattle.blk_window.specs.Held.{Page, HoldsFileBytes, dropped}
+use Rattle.blk_window.specs.Held.{Page, HoldsFileBytes, is_page, is_held, dropped}
 use Rattle.blk_window.specs.Pages.{held_of, places_of}
 use Rattle.blk_window.specs.Slots.{seen, Copies}
 use Rattle.blk_window.proofs.Agreeing.{held_found, found_page, all_found, all_used, used_found, used_new, new_front, gives_bytes}
 use Rattle.blk_window.proofs.HeldLists.{shown}
+use Rattle.blk_window.proofs.Tagging.{still_missing}
 use Rattle.blk_window.proofs.window.Window.read_page.Goals as goal
 
 pub invariant_of-self : goal.invariant_of-self
@@ -51,3 +53,11 @@ returns-clause-used g c =
           ∙ new_front (file_of c.args.file) (c.args.at / 4096) (places_of w.pages) held p.0 (sym c.in_default.ensures.exact) p.2;
       many = copies.many;
     }
+
+pub put-requires-clause-new : goal.put-requires-clause-new
+put-requires-clause-new g c = λ new there.
+    let file = file_of c.args.file in
+    let number = c.args.at / 4096 in
+    let missing = ap (is_held file number) c.in_default.ensures.none ∙ sym c.in_default.ensures.exact in
+    let named = sym (ap (λ (o : Option Page). option_map_or (is_page file number) o false) there) ∙ c.in_ok-load.ensures.shows in
+    ap (is_held new.file new.number) c.make_room-slot.ensures.held ∙ still_missing file number (places_of c.read.new.self) (held_of c.read.new.self) new missing named
