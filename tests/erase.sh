@@ -674,7 +674,7 @@ too_few_of_replay() {
 replays() {
     local told wrong tried total tried_images openings folders compared number found from=$SECONDS
     if [ "$places_of_each" = words ]; then
-        replay "$(((part - 1) * step + 1))/$((part_of * step))" '' '' '' "$@"
+        replay "$part/$part_of" '' '' '' "$@"
     else
         replay "$part/$part_of" "$places_of_each" '' '' "$@"
     fi
@@ -821,8 +821,8 @@ base=$room/turned
 stay=("$first" "$second" "$third")
 kills 'eviction of sparse data' "$new" put more 0 --items 4
 
-# A folder without an index, which is made anew. Most of what it writes are zeros over zeros, so it is killed at each seventh place of the
-# writes where all are asked for, and at each seventh of those between words.
+# A folder without an index, which is made anew. Most of what it writes are zeros over zeros, so where all are asked for, it is killed at each
+# seventh. Of those between words each is replayed: where a word changes nothing, the folder is one that was tried.
 take headless "$room/base"
 rm "$room/headless/index"
 base=$room/headless
