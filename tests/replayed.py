@@ -28,7 +28,8 @@ have ERASE as the value of BLKCACHE_ERASE. With either of them no kill is compar
 --without kills none is compared: its caller has to refuse both.
 
 Each fault is a line that begins with 'wrong'. The last line has numbers: the places that were tried, all places, the images that were opened,
-the openings that were stopped, the folders that openings left, the kills that were compared.
+the openings that were stopped, the folders that openings left, the kills that were compared, a sum over the
+record but for its bytes.
 """
 import errno
 import hashlib
@@ -39,6 +40,7 @@ import shutil
 import signal
 import struct
 import sys
+import zlib
 
 WORD = 4
 PAGE = 4096
@@ -426,6 +428,7 @@ class Replay:
         status, _, calls = self.run(whole, words, self.given)
         if status != 0:
             self.wrong(f"the program, killed nowhere, ends with {status}")
+        calls_sum = zlib.crc32(repr([(it.what, it.name, it.place, len(it.data)) for it in calls]).encode())
         after = read_folder(whole)
         shutil.rmtree(whole)
         folder = os.path.join(self.out, "folder")
@@ -443,7 +446,7 @@ class Replay:
         if left_out is None and image.files != after:
             self.wrong("the record, made whole, leaves another folder than the program")
         self.visit(image, None, False, not self.is_planted)
-        print(self.places, total, len(self.tried), self.openings, len(self.left), self.kills)
+        print(self.places, total, len(self.tried), self.openings, len(self.left), self.kills, calls_sum)
 
     def play_words(self, image, calls, total):
         """Tries each place of the part."""
