@@ -1,7 +1,8 @@
 # With BLKCACHE_ERASE=1 what is removed is gone: no byte of it is in any file of the folder, also after a kill and the next opening.
 # Without it the bytes are found. ERASE_KILLS says which places of a kill are tried of each command: a number, so many that are drawn; all, those
 # before each write, after its first word, midway and before its last; or words, those between any two words that are written. ERASE_PART=K/N tries
-# the K-th of N parts of these places alone. ERASE_SEED is what the places, the script and some lengths are drawn from.
+# the K-th of N parts of these places alone. ERASE_SEED is what the places, the bytes, the script and some lengths are drawn from: parts with the
+# same seed are parts of the same records, which differ in times alone, as the sums that are told show.
 # Of each place it is asked that the next opening ends well, also where it is killed too (behind each third place); that no piece of what was
 # removed is in any file then, and no byte in a block that is free or behind the end of a stream or a key; that each block that is marked and each
 # external file has an owner; and that what the command leaves alone has its bytes. But for all of them, the places are replayed from a record of
@@ -33,8 +34,8 @@ seed=${ERASE_SEED:-$RANDOM}
 
 # Letters and digits that are drawn, so that no 16 of them are anywhere by chance. Each secret begins at a multiple of 16, and is found
 # by its pieces of 16.
-pool=$(head -c 230000 /dev/urandom | base64 -w0 | tr -d '+/=')
-pool=${pool:0:280000}
+pool=$(awk -v seed="$seed" -v from=ABCDEFGHIJKLMNOPQRSTUVWXYZabcdefghijklmnopqrstuvwxyz0123456789 '
+    BEGIN { srand(seed); for (it = 0; it < 280000; it++) printf "%s", substr(from, int(rand() * 62) + 1, 1) }')
 digits=$(printf %s "$pool" | od -An -v -tx1 | tr -d ' \n')
 drawn=0
 fold -w 16 <<<"$pool" >"$room/all_pieces"
@@ -656,11 +657,11 @@ replay() {
     feed "$6"
     rm -rf "${scratch:?}/out"
     mkdir "$scratch/out"
-    tried=0 total=0 tried_images=0 openings=0 folders=0 compared=0
+    tried=0 total=0 tried_images=0 openings=0 folders=0 compared=0 record=0
     "$python" -S -B "$top/tests/replayed.py" "${options[@]}" "$program" "$room/stopped.so" "$base" "$room/fed" "$scratch/out" "$1" -- "${@:7}" \
         >"$room/replayed" 2>&1 || echo 'wrong: it did not come to its end' >>"$room/replayed"
     wrong=$(grep -vx '[0-9 ]*' "$room/replayed")
-    read -r tried total tried_images openings folders compared < <(grep -x '[0-9][0-9 ]*' "$room/replayed")
+    read -r tried total tried_images openings folders compared record < <(grep -x '[0-9][0-9 ]*' "$room/replayed")
 }
 # Prints what a replay has too few of, by its counts: each puts a folder aside, and the program is killed at as many places as it tried where
 # these are drawn, and at one at least where it tried all.
@@ -672,9 +673,9 @@ too_few_of_replay() {
 }
 # Kills between any two words, replayed, those that are drawn or all: NAME INPUT WORDS
 replays() {
-    local told wrong tried total tried_images openings folders compared number found from=$SECONDS
+    local told wrong tried total tried_images openings folders compared record number found from=$SECONDS
     if [ "$places_of_each" = words ]; then
-        replay "$(((part - 1) * step + 1))/$((part_of * step))" '' '' '' "$@"
+        replay "$part/$part_of" '' '' '' "$@"
     else
         replay "$part/$part_of" "$places_of_each" '' '' "$@"
     fi
@@ -687,14 +688,14 @@ replays() {
             "0 0 0 0 $told" "$found"
     done < <(looks "$room/told" $(seq -f "$scratch/out/left/%g" "$folders"))
     places=$((places + tried)) killed_openings=$((killed_openings + openings)) images=$((${images:-0} + tried_images))
-    echo "$1: $tried of $total places, and $openings of the next openings: $tried_images folders, which openings made $folders;" \
-        "$compared kills were compared; in $((SECONDS - from)) seconds"
+    echo "$1: $tried of $total places of the record $record, and $openings of the next openings: $tried_images folders, which openings" \
+        "made $folders; $compared kills were compared; in $((SECONDS - from)) seconds"
 }
 # Zeros are left out: a byte of those over the files whose names begin with what is given, or all of those of the program (all), or of the
 # openings alone (openings). This is refused at its word, by what the next opening leaves, behind a kill or behind none, or by both.
 # HOW GIVEN NAME INPUT WORDS
 planted() {
-    local told wrong tried total tried_images openings folders compared number found by='' left='' names=$2 of_openings=
+    local told wrong tried total tried_images openings folders compared record number found by='' left='' names=$2 of_openings=
     [ "$has_python" = yes ] || return
     case $2 in
         all) local -x BLKCACHE_ERASE=0 names= ;;
@@ -714,7 +715,7 @@ planted() {
 }
 # A replay without folders that are put aside, or without kills that are compared, is refused by its counts: WITHOUT COUNTS NAME INPUT WORDS
 planted_without() {
-    local told wrong tried total tried_images openings folders compared without=$1 places_of_each=3
+    local told wrong tried total tried_images openings folders compared record without=$1 places_of_each=3
     [ "$has_python" = yes ] || return
     replay 1/1 3 '' '' "${@:3}"
     is "refused: $3, without $1" "$2" "$wrong$(too_few_of_replay)"
@@ -821,8 +822,8 @@ base=$room/turned
 stay=("$first" "$second" "$third")
 kills 'eviction of sparse data' "$new" put more 0 --items 4
 
-# A folder without an index, which is made anew. Most of what it writes are zeros over zeros, so it is killed at each seventh place of the
-# writes where all are asked for, and at each seventh of those between words.
+# A folder without an index, which is made anew. Most of what it writes are zeros over zeros, so where all are asked for, it is killed at each
+# seventh. Of those between words each is replayed: where a word changes nothing, the folder is one that was tried.
 take headless "$room/base"
 rm "$room/headless/index"
 base=$room/headless

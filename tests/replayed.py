@@ -28,7 +28,8 @@ have ERASE as the value of BLKCACHE_ERASE. With either of them no kill is compar
 --without kills none is compared: its caller has to refuse both.
 
 Each fault is a line that begins with 'wrong'. The last line has numbers: the places that were tried, all places, the images that were opened,
-the openings that were stopped, the folders that openings left, the kills that were compared.
+the openings that were stopped, the folders that openings left, the kills that were compared, a sum over the
+record but for its bytes.
 """
 import errno
 import hashlib
@@ -39,6 +40,7 @@ import shutil
 import signal
 import struct
 import sys
+import zlib
 
 WORD = 4
 PAGE = 4096
@@ -48,6 +50,7 @@ MAGIC = bytes.fromhex("c3ca03c1")
 RECORD = 100
 KILLS = 16
 MANY = 20000
+BLOCKS = re.compile("data_[0-9]+")
 MOST_WRONG = 20
 
 
@@ -91,7 +94,7 @@ class Image:
     def __init__(self, path, wrong):
         self.path, self.wrong = path, wrong
         self.files, self.open_files, self.page_sums, self.length_sums = {}, {}, {}, {}
-        self.sum, self.stale, self.unwritten = 0, set(), set()
+        self.sum, self.stale, self.unwritten, self.blank_sums = 0, set(), set(), {}
         self.journal, self.is_noting = [], True
         for name, data in read_folder(path).items():
             self.open_files[name] = os.open(os.path.join(path, name), os.O_RDWR)
@@ -102,8 +105,14 @@ class Image:
     # Sums: of each page, and of each length, with the name of the file and the number of the page.
 
     def page_sum(self, name, page, data):
+        key = (name, page, len(data)) if is_blank(data) else None
+        if key in self.blank_sums:
+            return self.blank_sums[key]
         it = hashlib.blake2b(data, digest_size=16, person=name.encode(), salt=struct.pack("<Q", page))
-        return int.from_bytes(it.digest(), "little")
+        it = int.from_bytes(it.digest(), "little")
+        if key:
+            self.blank_sums[key] = it
+        return it
 
     def count_pages(self, name, first):
         """A file has another length: its pages from this one on are summed anew."""
@@ -147,10 +156,10 @@ class Image:
         file = self.files[name]
         if place + len(data) > len(file):
             self.resize(name, place + len(data), on_disk)
-        old = bytes(file[place : place + len(data)])
+        old = file[place : place + len(data)]
         if old == data:
             return
-        self.note("write", name, place, old)
+        self.note("write", name, place, bytes(old))
         file[place : place + len(data)] = data
         for page in range(place // PAGE, (place + len(data) - 1) // PAGE + 1):
             self.stale.add((name, page))
@@ -215,6 +224,11 @@ class Image:
         """What was changed up to now isn't taken back."""
         self.journal.clear()
 
+    def has(self, call):
+        """Whether a write finds all its bytes there, so that none of its words changes the folder."""
+        file, end = self.files[call.name], call.place + len(call.data)
+        return end <= len(file) and file[call.place : end] == call.data
+
     def make(self, call, on_disk):
         """Makes a call of a record, and asks that what it gets rid of is blank."""
         if call.what == "w":
@@ -234,7 +248,7 @@ class Image:
     def ask_marks(self, call):
         """A write to the map of a block file, or into its blocks: what loses its mark is blank, and what has none is not written into."""
         file = self.files[call.name]
-        if not re.fullmatch("data_[0-9]+", call.name) or len(file) < HEADER or self.files.get("index", b"")[:4] != MAGIC:
+        if not BLOCKS.fullmatch(call.name) or len(file) < HEADER or self.files.get("index", b"")[:4] != MAGIC:
             return
         size = struct.unpack_from("<I", file, 12)[0]
         if size == 0:
@@ -307,7 +321,7 @@ class Replay:
         self.faults = 0
         self.at = "before the first place"
         self.tried, self.left = set(), set()
-        self.last_sum = self.last_calls = self.stopped_sum = None
+        self.last_sum = self.last_calls = self.last_total = self.stopped_sum = None
         self.openings = self.kills = self.places = 0
         self.said = os.open(os.path.join(out, "said"), os.O_RDWR | os.O_CREAT | os.O_APPEND, 0o600)
         self.complained = os.open(os.path.join(out, "complained"), os.O_RDWR | os.O_CREAT | os.O_APPEND, 0o600)
@@ -381,12 +395,12 @@ class Replay:
         if it not in self.tried or is_third and it != self.last_sum:
             self.tried.add(it)
             self.last_sum, self.last_calls = it, self.open(image)
+            self.last_total = sum(call.places() for call in self.last_calls)
             if is_compared and not image.is_on_disk():
                 self.wrong("the next opening leaves another folder than its record")
             image.undo()
         if is_third:
-            at, calls = self.at, self.last_calls
-            total = sum(call.places() for call in calls)
+            at, calls, total = self.at, self.last_calls, self.last_total
             if total > MANY and it == self.stopped_sum:
                 return
             self.stopped_sum = it
@@ -414,6 +428,7 @@ class Replay:
         status, _, calls = self.run(whole, words, self.given)
         if status != 0:
             self.wrong(f"the program, killed nowhere, ends with {status}")
+        calls_sum = zlib.crc32(repr([(it.what, it.name, it.place, len(it.data)) for it in calls]).encode())
         after = read_folder(whole)
         shutil.rmtree(whole)
         folder = os.path.join(self.out, "folder")
@@ -431,19 +446,24 @@ class Replay:
         if left_out is None and image.files != after:
             self.wrong("the record, made whole, leaves another folder than the program")
         self.visit(image, None, False, not self.is_planted)
-        print(self.places, total, len(self.tried), self.openings, len(self.left), self.kills)
+        print(self.places, total, len(self.tried), self.openings, len(self.left), self.kills, calls_sum)
 
     def play_words(self, image, calls, total):
         """Tries each place of the part."""
         compared = {turn * total // KILLS // self.parts * self.parts + self.part - 1 for turn in range(KILLS)}
         turn = 0
         for call in calls:
+            # A write that finds its bytes there is made at once: at each of its words the folder is the same.
+            is_there = call.what == "w" and image.has(call)
             for number in range(call.places()):
                 self.at = f"place {turn + 1}"
                 if turn % self.parts == self.part - 1:
                     self.places += 1
                     self.visit(image, turn, turn // self.parts % 3 == 0, not self.is_planted and turn in compared)
-                image.make(call.word(number) if call.what == "w" else call, True)
+                if not is_there:
+                    image.make(call.word(number) if call.what == "w" else call, True)
+                elif number == 0:
+                    image.make(call, True)
                 turn += 1
 
     def play_drawn(self, image, calls):
