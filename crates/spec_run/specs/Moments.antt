@@ -56,7 +56,7 @@ pub record IsStopped (from : Image) (opened : State) (commands : List Stamped) (
   pub stands : (before : List TrailStep) (step : TrailStep) → steps ≡ before ++ step ∷ [] → Completes before step → StandsFor image (state_at opened commands (notes_in steps))
   -- once the opening has ended, and until the step that ends the session, the crash word is 1 and the number of the session is that of the opening
   pub session : has_opened steps ≡ true → has_closed steps ≡ false → IsInSessionOf from image
-  -- a command that is refused makes no step but its note, and a line that is no command makes none: a step once the opening has ended is of the next command,
-  -- its note where that is refused; and where there is none it ends the session
+  -- a step once the opening has ended is of the next command, and its note where that is refused; where there is none it ends the session: so a command that is
+  -- refused makes no step but its note, and a line that is no command has none of its own
   pub refused : (before : List TrailStep) (step : TrailStep) → steps ≡ before ++ step ∷ [] → has_opened before ≡ true
       → MayFollow opened commands (notes_in before) (command_after commands (notes_in before)) step
