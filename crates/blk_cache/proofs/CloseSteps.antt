@@ -46,12 +46,13 @@ use Rattle.blk_object.proofs.KeptMarks.{being-set, check-as-records, marks-set, 
 use Rattle.blk_cache.specs.declared.cache.Cache.{Cache}
 use Rattle.blk_cache.specs.BoundNames.{AreBoundAmong}
 use Rattle.blk_cache.specs.CacheKeeping.{IsBoundTo, HoldsState}
-use Rattle.blk_cache.specs.CommandClauses.{KeepsAny, OnlyNamesChange}
+use Rattle.blk_cache.specs.CommandClauses.{KeepsAny, OnlyNamesChange, SparesRefused}
 use Rattle.blk_evict.specs.Looking.{charge_at}
 use Rattle.blk_cache.proofs.BoundObjects.{free-of}
 use Rattle.blk_cache.proofs.BoundRecords.{bound-loads, bound-node, bound-says}
 use Rattle.blk_cache.proofs.Closes.{at-place, is, layout-now, less, less-keeps, less-open, named, node-place, number, settled-keeps, within-some}
 use Rattle.blk_cache.proofs.Refusing.{says-kept}
+use Rattle.blk_cache.proofs.Sparing.{passed-spares}
 
 -- ---- what is freed
 
@@ -116,6 +117,11 @@ module _ (cache : Cache) (handle : ℕ) (small : handle < 2 ^ 16) (b : Binding) 
 
   pub answered-as : (state : State) (image : Image) (k : HoldsState cache state image) (moment : ℕ) → answer.Done ≡ answer_of (step state moment (to_close handle)).reply
   answered-as state image k moment = sym (close-answer state moment handle (named-passes state moment handle (number cache state image k handle b bound) (below state image k) (named cache state image k handle b bound)))
+
+  pub close-spares : (old now : Told) (moment : ℕ) → SparesRefused (HoldsState cache) old now moment (to_close handle)
+  close-spares old now moment =
+      passed-spares (HoldsState cache) old now moment (to_close handle)
+      (λ image here state k. named-passes state moment handle (number cache state image k handle b bound) (below state image k) (named cache state image k handle b bound))
 
   pub several-done : (new : Cache) (told : Told) → is_open (set cache.handles handle None) b.entry ≡ true → new.handles ≡ set cache.handles handle None → new.open_bytes ≡ cache.open_bytes → OnlyNamesChange cache new
       → (moment : ℕ) → Does (HoldsState cache) (HoldsState new) told told moment (to_close handle) answer.Done

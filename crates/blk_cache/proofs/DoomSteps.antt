@@ -30,6 +30,8 @@ use Rattle.blk_cache.specs.Dooming.{ForEachKept, ForEachOpen, doom_refusal}
 use Rattle.blk_cache.specs.DoomingObjects.{IsTargetAt, LiesOpen}
 use Rattle.blk_cache.proofs.BoundObjects.{free-of, named-at, number-of}
 use Rattle.blk_cache.proofs.Closes.{within-some}
+use Rattle.blk_cache.specs.CommandClauses.{SparesRefused}
+use Rattle.blk_cache.proofs.Sparing.{passed-spares}
 
 -- ---- refusals by the name
 
@@ -170,6 +172,11 @@ module _ (cache : Cache) (key : List ℕ) (bytes : IsBytes key) (some : no_key k
         subst (λ (t : Told). Passes t now (MayStop state moment (to_doom_key key))) stays
         (passes_weaker (stops image (now-here image here) state k at.number at.object at.lies at.of_key) may may)
 
+    pub key-spares : SparesRefused (HoldsState cache) old now moment (to_doom_key key)
+    key-spares =
+        passed-spares (HoldsState cache) old now moment (to_doom_key key)
+        (λ image here state k. let at = found image here state k in (key-dooms state image k at moment).passes)
+
     pub key-done : (new : Cache) → ForSome mid.files (λ from. ForEachKept cache key target from (λ state number object. ForSome now.files (HoldsState new (doomed number state (Some object))))) → Does (HoldsState cache) (HoldsState new) old now moment (to_doom_key key) answer.Done
     key-done new done image here state k =
         let at = found image here state k in
@@ -205,6 +212,14 @@ module _ (cache : Cache) (handle : ℕ) (small : handle < 2 ^ 16) (object : Open
       pub given-stops : ForSome old.files (λ from. ForEachOpen cache object.node object.entry from (λ state number object. Passes old now (FindsEither state (doomed number state (Some object))))) → (moment : ℕ) → MayStopAtEach (HoldsState cache) old now moment (to_doom handle)
       given-stops stops moment = doom-stops cache handle small given.binding given.bound lives-so old now moment
           (subst (λ (o : OpenObject). ForSome old.files (λ from. ForEachOpen cache o.node o.entry from (λ state number object. Passes old now (FindsEither state (doomed number state (Some object)))))) given.same stops)
+
+      pub given-spares : (moment : ℕ) → SparesRefused (HoldsState cache) old now moment (to_doom handle)
+      given-spares moment =
+          passed-spares (HoldsState cache) old now moment (to_doom handle)
+          (λ image here state k.
+          live-passes state moment handle (number cache handle small given.binding given.bound state image k) (it cache handle small given.binding given.bound state image k).object
+          (below cache handle small given.binding given.bound state image k) (named cache handle small given.binding given.bound state image k)
+          (it cache handle small given.binding given.bound state image k).here (alive cache handle small given.binding given.bound state image k lives-so))
 
       pub given-done : (new : Cache) → ForSome old.files (λ from. ForEachOpen cache object.node object.entry from (λ state number object. ForSome now.files (HoldsState new (doomed number state (Some object))))) → (moment : ℕ) → Does (HoldsState cache) (HoldsState new) old now moment (to_doom handle) answer.Done
       given-done new done moment = doom-done cache handle small given.binding given.bound lives-so old now moment new

@@ -25,12 +25,13 @@ use Rattle.law_state.proofs.WordStops.{cleaning-stops}
 use Rattle.blk_object.specs.RemovingObjects.{FindsEither}
 use Rattle.blk_cache.specs.declared.cache.Cache.{Cache}
 use Rattle.blk_cache.specs.CacheKeeping.{IsBoundTo, HoldsState}
-use Rattle.blk_cache.specs.CommandClauses.{FlushesClean}
+use Rattle.blk_cache.specs.CommandClauses.{FlushesClean, SparesRefused}
 use Rattle.blk_cache.specs.Marking.{ForEachNamed}
 use Rattle.blk_cache.proofs.BoundObjects.{free-of, number-of}
 use Rattle.blk_cache.proofs.Closes.{within-some}
 use Rattle.blk_cache.proofs.DoomSteps.{IsGivenFor}
 use Rattle.blk_cache.proofs.Refusing.{says-kept}
+use Rattle.blk_cache.proofs.Sparing.{passed-spares}
 
 -- ---- refusals
 
@@ -126,6 +127,11 @@ module _ (cache : Cache) (handle : ℕ) (small : handle < 2 ^ 16) (object : Open
           (subst (λ (o : Option Binding). IfSome o (λ binding. binding.dirty ≡ dirty → Stays old now)) given.bound idle (sym marks ∙ only e ∙ sym e))
       by false e =
           cleaned (subst (λ (t : Bool). ForSome old.files (λ from. ForEachNamed cache handle from (λ state number object. Passes old now (FindsEither state (marked state number object (not t)))))) e stops)
+
+    pub flush-spares : SparesRefused (HoldsState cache) old now moment (to_flush handle)
+    flush-spares =
+        passed-spares (HoldsState cache) old now moment (to_flush handle)
+        (λ image here state k. flush-passes state k.kept.entries.valid moment handle (number state image k) (it state image k).object (opened state image k lives))
 
     pub flush-done : (new : Cache) → ForSome old.files (λ from. ForEachNamed cache handle from (λ state number object. ForSome now.files (HoldsState new (marked state number object true)))) → Does (HoldsState cache) (HoldsState new) old now moment (to_flush handle) answer.Done
     flush-done new done image here state k = record {

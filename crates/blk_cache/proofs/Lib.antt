@@ -77,3 +77,4 @@ pub mod SparseLeft
 pub mod SparseEmpty
 pub mod SparseNamed
 pub mod SparseWhole
+pub mod Sparing

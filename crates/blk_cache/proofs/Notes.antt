@@ -22,7 +22,8 @@ use Rattle.law_state.specs.KeepingLaws.{HasMagic}
 use Rattle.law_state.proofs.Keeping.{kept-stands}
 use Rattle.blk_cache.specs.declared.cache.Cache.{Cache}
 use Rattle.blk_cache.specs.CacheKeeping.{IsBoundAs, HoldsState, KeepsState}
-use Rattle.blk_cache.specs.CommandClauses.{FlushesClean, IsRefused, OnlyNotesChange}
+use Rattle.blk_cache.specs.CommandClauses.{FlushesClean, IsRefused, OnlyNotesChange, SparesRefused}
+use Rattle.blk_cache.specs.Stepping.{NotesAlone}
 
 -- a note changes no file
 note-nothing : (number : ℕ) (files : Option Image) → option_map (after (Note number ∷ [])) files ≡ files
@@ -90,6 +91,17 @@ module _ (old new last : Cache) (told mid now : Told) (moment : ℕ) (request : 
     refused-notes quiet image there state k refused =
         let d : IsDone (HoldsState new) mid moment request answer state = does image there state k.holds in
         subst (λ (t : Told). Applies t now (Note number ∷ [])) (quiet (subst (λ (a : Answer). IsRefused a) (sym d.answered) refused)) note
+
+    -- it is noted, and a refusal makes the note alone
+    pub noted-alone : (IsRefused answer → Stays told mid) → ForKept (KeepsState old) told (NotesAlone told now moment request number)
+    noted-alone quiet image there state k = record { noted = noted-ends image there state k; alone = refused-notes quiet image there state k }
+
+-- and it makes no step where the note isn't made
+pub quiet-spares : (old new : Cache) (told mid now : Told) (moment : ℕ) (request : Request) (answer : Answer) → Does (HoldsState old) (HoldsState new) told mid moment request answer
+    → (IsRefused answer → Stays told mid) → Stays mid now → SparesRefused (HoldsState old) told now moment request
+quiet-spares old new told mid now moment request answer does quiet stays image there state k refused =
+    let d : IsDone (HoldsState new) mid moment request answer state = does image there state k in
+    stays ∙ quiet (subst (λ (a : Answer). IsRefused a) (sym d.answered) refused)
 
 -- and so does a Flush of a clean object, which stays before it
 pub clean-notes : (cache : Cache) (told mid now : Told) (request : Request) (number : ℕ) → ForKept (HoldsState cache) told (λ state. FlushesClean state request → Stays told mid) → Applies mid now (Note number ∷ [])

@@ -44,7 +44,8 @@ use Rattle.blk_repair.proofs.Endings.{breaks-none, either-weaker, ends-weaker}
 use Rattle.blk_repair.specs.Repair.{IsRepairDamage, IsRepairable, IsRepaired, next_id}
 use Rattle.blk_cache.specs.declared.opening.Opened.{Opened}
 use Rattle.blk_cache.specs.Opened.{IsJustMade, IsOpenedAs, IsOpeningDamage}
-use Rattle.blk_cache.specs.Opening.{StandsOpened, opened_id}
+use Rattle.spec_run.specs.Opening.{opened_id}
+use Rattle.blk_cache.specs.Opening.{StandsOpened}
 use Rattle.blk_scan.proofs.FirstDamages.{blocks-formed, first-before, first-behind}
 use Rattle.blk_cache.proofs.OpenedFolders.{made-repairable, repaired-kept, told-totals}
 
@@ -152,16 +153,24 @@ passes-silent passes none = passes.applies.files ∙ ap (option_map (after passe
 
 -- ---- where the session was marked as open
 
--- what recovered an image opened it
-pub repaired-opens : {a b : Told} (from : Image) → EndsWithCrashWord a b (IsMidRepair from) (IsRepaired from) → EndsWithCrashWord a b (IsMidRepair from) (StandsOpened from)
-repaired-opens from ends = ends-weaker ends (λ i mid. mid) (λ i repaired. repaired.stands_for)
+-- the image that recovery leaves represents the opened state, in the next session
+repaired-stands : (from image : Image) → IsWellFormed from → IsRepaired from image → StandsOpened from image
+repaired-stands from image well repaired = record { stands = repaired.stands_for; id = repaired.id_is ∙ sym (finished-id from well) }
 
-pub repaired-either : {a b : Told} (from : Image) → EndsOrBreaksOff a b (IsMidRepair from) (IsRepaired from) → EndsOrBreaksOff a b (IsMidRepair from) (StandsOpened from)
-repaired-either from either = either-weaker either (λ i mid. mid) (λ i repaired. repaired.stands_for)
+pub repaired-opens : {a b : Told} (from : Image) → IsWellFormed from → EndsWithCrashWord a b (IsMidRepair from) (IsRepaired from)
+    → EndsWithCrashWord a b (IsMidRepair from) (StandsOpened from)
+repaired-opens from well ends = ends-weaker ends (λ i mid. mid) (λ i. repaired-stands from i well)
+
+pub repaired-either : {a b : Told} (from : Image) → IsWellFormed from → EndsOrBreaksOff a b (IsMidRepair from) (IsRepaired from)
+    → EndsOrBreaksOff a b (IsMidRepair from) (StandsOpened from)
+repaired-either from well either = either-weaker either (λ i mid. mid) (λ i. repaired-stands from i well)
 
 -- what represents what a made folder holds represents what was recovered of the uninitialized one before it
 pub made-stands : (entry made image : Image) → IsUnfinished entry → IsJustMade made → StandsOpened made image → StandsOpened entry image
-made-stands entry made image un is stands limits = subst (λ (rows : List Row). StandsFor image (open_state rows limits)) (made-found made is ∙ sym (unfinished-found entry un)) (stands limits)
+made-stands entry made image un is opens = record {
+  stands = λ limits. subst (λ (rows : List Row). StandsFor image (open_state rows limits)) (made-found made is ∙ sym (unfinished-found entry un)) (opens.stands limits);
+  id = opens.id ∙ made-next made is ∙ sym (unfinished-next entry un);
+}
 
 -- ---- failed checks
 

@@ -39,10 +39,11 @@ use Rattle.blk_object.proofs.KeptLists.{listed-amid, touches-done, touches-partl
 use Rattle.blk_cache.specs.declared.cache.Cache.{Cache}
 use Rattle.blk_evict.specs.declared.looking.Live.{Live}
 use Rattle.blk_cache.specs.CacheKeeping.{HoldsState}
-use Rattle.blk_cache.specs.CommandClauses.{KeepsAny, OnlyNamesChange, charged_with, open_refusal}
+use Rattle.blk_cache.specs.CommandClauses.{KeepsAny, OnlyNamesChange, charged_with, open_refusal, SparesRefused}
 use Rattle.blk_evict.specs.Looking.{IsLiveAt}
 use Rattle.blk_cache.proofs.Opens.{opened-keeps, used-node}
 use Rattle.blk_cache.proofs.Refusing.{name-below, name-free, not-refused}
+use Rattle.blk_cache.proofs.Sparing.{passed-spares}
 
 -- what is found in an observable folder
 abbrev pub IsFoundIn : Told → List ℕ → Live → Type 0
@@ -102,6 +103,10 @@ module _ (cache : Cache) (old mid now : Told) (stays : mid ≡ old) (moment hand
       let may : (i : Image) → IsTouched image node (touch_writes node (list_of image)) i → MayStop state moment (to_open handle key) i
       = λ i touched. opens-stop state k.layout [] image i k.kept.entries moment handle key (goes-on image here state k) (subst (λ (n : ℕ). IsTouched image n (touch_writes n (list_of image)) i) (node-is image here state k) touched) in
       passes_weaker from-old may may
+
+  -- and it isn't refused
+  pub opened-spares : SparesRefused (HoldsState cache) old now moment (to_open handle key)
+  opened-spares = passed-spares (HoldsState cache) old now moment (to_open handle key) (λ image here state k. goes-on image here state k)
 
   -- in the end
   pub opened-does : (new : Cache) → IsBytes key → handle < 2 ^ 16 → TellsBytes mid → ForSome mid.files (IsOpen cache.files) → ForSome now.files (IsOpen cache.files) → ForSome mid.files (λ from. Applies mid now (steps_of_touch node moment from))

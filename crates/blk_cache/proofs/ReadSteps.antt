@@ -44,12 +44,13 @@ use Rattle.blk_cache.specs.declared.asking.NamedStream.{NamedStream}
 use Rattle.blk_cache.specs.declared.cache.Cache.{Cache}
 use Rattle.blk_cache.specs.Asking.{IsNamedStream, stream_refusal}
 use Rattle.blk_cache.specs.CacheKeeping.{IsBoundAs, HoldsState, named_objects}
-use Rattle.blk_cache.specs.CommandClauses.{KeepsAny}
+use Rattle.blk_cache.specs.CommandClauses.{KeepsAny, SparesRefused}
 use Rattle.blk_cache.specs.Reading.{UsesItem, bytes_there}
 use Rattle.blk_cache.proofs.NamedObjects.{named-same}
 use Rattle.blk_cache.proofs.OpenSteps.{listed-node}
 use Rattle.blk_cache.proofs.Refusing.{says-kept}
 use Rattle.blk_cache.proofs.Sizes.{named-object}
+use Rattle.blk_cache.proofs.Sparing.{passed-spares}
 
 -- ---- answers
 
@@ -145,6 +146,10 @@ module _ (cache : Cache) (old mid : Told) (stays : mid ≡ old) (moment handle s
       found-listed image here one.0 one.1 alive
 
   module _ {A : Type 0} (now : Told) (result : Result A Fault) (uses : UsesItem cache.files mid now found moment result) where
+    -- it isn't refused
+    pub read-spares : SparesRefused (HoldsState cache) old now moment (to_read handle stream offset count)
+    read-spares = passed-spares (HoldsState cache) old now moment (to_read handle stream offset count) (λ image here state k. goes-on image here state k)
+
     -- at each word
     pub read-stops : MayStopAtEach (HoldsState cache) old now moment (to_read handle stream offset count)
     read-stops = ⊎_elim

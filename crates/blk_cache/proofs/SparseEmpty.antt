@@ -39,7 +39,7 @@ use Rattle.blk_object.proofs.KeptLists.{listed-amid, touches-done, touches-partl
 use Rattle.blk_sparse.specs.declared.storing.Target.{Target}
 use Rattle.blk_cache.specs.declared.cache.Cache.{Cache}
 use Rattle.blk_cache.specs.CacheKeeping.{HoldsState}
-use Rattle.blk_cache.specs.CommandClauses.{KeepsAny}
+use Rattle.blk_cache.specs.CommandClauses.{KeepsAny, SparesRefused}
 use Rattle.blk_cache.specs.SparseTargets.{IsTargetNamed, NamesTarget}
 use Rattle.blk_evict.specs.RoomPrinting.{PrintsUnlessFailed}
 use Rattle.blk_script.specs.Reply.{evicted_text}
@@ -52,6 +52,7 @@ use Rattle.blk_cache.proofs.Sizes.{named-object}
 use Rattle.blk_cache.proofs.SparseEnds.{effect-same, sparse-written-is}
 use Rattle.blk_cache.proofs.SparseRoom.{wants-room}
 use Rattle.blk_cache.proofs.Marks.{set-same}
+use Rattle.blk_cache.proofs.Sparing.{passed-spares}
 
 -- ---- the map's
 
@@ -130,6 +131,11 @@ module _ (cache : Cache) (old now : Told) (moment handle offset : ℕ) (found : 
   amid image here state k =
       let t = names image here state k in
       subst (λ (n : ℕ). IsAmidList n image) t.its.node_is (listed-amid state k.layout [] image (main t.its.object.key) k.kept.entries (listed state moment handle offset k.layout found t image k.kept.entries))
+
+  pub empty-spares : SparesRefused (HoldsState cache) old now moment (to_sparse_write handle offset [])
+  empty-spares =
+      passed-spares (HoldsState cache) old now moment (to_sparse_write handle offset [])
+      (λ image here state k. goes-on state moment handle offset k.layout found (names image here state k))
 
   -- a folder where the cache keeps a state has the node listed
   pub target-listed : ForSome old.files (KeepsAny cache) → ForSome old.files (IsListed found.parent.node)

@@ -32,13 +32,14 @@ use Rattle.blk_cache.specs.declared.sparse_asking.PlainObject.{PlainObject}
 use Rattle.blk_cache.specs.declared.sparse_reading.Wanted.{Wanted}
 use Rattle.blk_cache.specs.declared.sparse_reading.Wanted.TheVariants as wanted
 use Rattle.blk_cache.specs.CacheKeeping.{HoldsState}
-use Rattle.blk_cache.specs.CommandClauses.{IsRefused}
+use Rattle.blk_cache.specs.CommandClauses.{IsRefused, SparesRefused}
 use Rattle.blk_cache.specs.Listing.{OnlyRoomChanges}
 use Rattle.blk_cache.specs.SparseAsking.{IsParentNamed, IsPlainNamed, sparse_refusal}
 use Rattle.blk_cache.specs.SparseReading.{to_use_sparse, told_of_run}
 use Rattle.blk_cache.proofs.ReadSteps.{keeps-in-order}
 use Rattle.blk_cache.proofs.Replies.{kept-still}
 use Rattle.blk_cache.proofs.Sizes.{named-object}
+use Rattle.blk_cache.proofs.Sparing.{passed-spares}
 
 -- ---- the two requests are alike
 
@@ -139,6 +140,10 @@ module _ (cache : Cache) (old mid now : Told) (stays : mid ≡ old) (moment hand
         (subst (λ (items : List Item). HoldsState new (in_order (used_all items state.uses) state) i) (sym items-are)
         (kept-still cache new (in_order (used_all (main s.its.object.key ∷ parts_used s.its.object offset count) state.uses) state) i others
         (keeps-in-order cache state image i k (used_all (main s.its.object.key ∷ parts_used s.its.object offset count) state.uses) (record { entries = u.parent.kept; counters = u.counted k.kept.counters }) opened.agrees u.session.id)))
+
+  -- it isn't refused
+  pub sparse-spares : SparesRefused (HoldsState cache) old now moment (to_use_sparse w handle offset count)
+  sparse-spares = passed-spares (HoldsState cache) old now moment (to_use_sparse w handle offset count) (λ image here state k. goes-on image here state k)
 
   pub sparse-stops : ForSome mid.files (λ from. ForEachKeptParent parent.node parent.entry (cast_unsigned w64 parent.signature) from (λ state layout unlinked number object. Passes mid now (FindsUsed state (main object.key ∷ parts_used object offset count)))) → MayStopAtEach (HoldsState cache) old now moment (to_use_sparse w handle offset count)
   sparse-stops stops image here state k =

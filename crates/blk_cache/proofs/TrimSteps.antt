@@ -29,7 +29,7 @@ use Rattle.blk_cache.specs.Stepping.{SaysEvicted, SaysPrefix}
 use Rattle.blk_cache.proofs.CoveredParts.{for-none}
 
 module _ (moment bytes : ℕ) where
-  trim-passes : (state : State) → refused moment (to_trim bytes) state ≡ None
+  pub trim-passes : (state : State) → refused moment (to_trim bytes) state ≡ None
   unfolding refusals
   trim-passes state = refl
 

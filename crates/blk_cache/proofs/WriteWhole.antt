@@ -33,7 +33,7 @@ use Rattle.blk_cache.specs.declared.asking.NamedStream.{NamedStream}
 use Rattle.blk_cache.specs.declared.cache.Cache.{Cache}
 use Rattle.blk_cache.specs.Asking.{stream_refusal}
 use Rattle.blk_cache.specs.CacheKeeping.{HoldsState}
-use Rattle.blk_cache.specs.CommandClauses.{IsRefused, KeepsAny}
+use Rattle.blk_cache.specs.CommandClauses.{IsRefused, KeepsAny, SparesRefused}
 use Rattle.blk_cache.specs.Evicting.{IsEvicting}
 use Rattle.blk_evict.specs.RoomPrinting.{PrintsUnlessFailed}
 use Rattle.blk_cache.specs.Stepping.{SaysEvicted, SaysPrefix}
@@ -45,6 +45,7 @@ use Rattle.blk_evict.proofs.RoomTexts.{none-behind, none-printed}
 use Rattle.blk_cache.proofs.Sizes.{named-object}
 use Rattle.blk_cache.proofs.WriteRoom.{bound, first, long-after, same-stream, wants-rise}
 use Rattle.blk_cache.proofs.WriteUses.{never-told}
+use Rattle.blk_cache.proofs.Sparing.{passed-spares}
 
 -- ---- any request
 
@@ -101,6 +102,10 @@ module _ (moment : ℕ) (request : Request) (more : ℕ) where
 
       pub made-front : ForKept (HoldsState cache) told (λ state. Appends old new (evicted_text (evicted_for (room state [] more 0)))) → SaysPrefix (HoldsState cache) told moment request old new
       made-front front image there state k = subst (λ (groups : List Group). Appends old new (evicted_text groups)) (sym (groups-made image there state k)) (front image there state k)
+
+    -- where there is space it isn't refused
+    pub tried-spares : (now : Told) → ForKept (HoldsState cache) told (λ state. is_full (room state [] more 0) ≡ false) → SparesRefused (HoldsState cache) told now moment request
+    tried-spares now free = passed-spares (HoldsState cache) told now moment request (λ image there state k. not-refused state (is image there state k) (free image there state k))
 
     module _ (mid : Told) (evicting : ForKept (HoldsState cache) told (λ state. Passes told mid (IsEvicting (evicted_for (room state [] more 0)) state))) where
       -- at a word at which space is made it may crash

@@ -2,8 +2,9 @@
 use Rattle.std.specs.Prelude.{◌≡◌, ◌⊎◌, ℕ, ◌+◌, ◌-◌, ◌^◌, Bool, List, [], ◌∷◌, if◌then◌else◌, is_some, min, true}
 use Rattle.std.specs.declared.option.Option.{Option}
 use Rattle.spec_image.specs.Image.{Image}
-use Rattle.spec_image.specs.Told.{Told}
+use Rattle.spec_image.specs.Told.{Stays, Told}
 use Rattle.blk_io.specs.declared.fault.Damage.{Damage}
+use Rattle.blk_model.specs.Reply.{answer_of}
 use Rattle.blk_model.specs.Request.{Request, to_flush, to_sparse_range, to_sparse_read, to_sparse_write}
 use Rattle.blk_model.specs.State.{Object, State}
 use Rattle.blk_model.specs.declared.Answer.{Answer}
@@ -11,8 +12,10 @@ use Rattle.blk_model.specs.declared.Answer.TheVariants as answer
 use Rattle.blk_model.specs.declared.Refusal.{Refusal}
 use Rattle.blk_model.specs.declared.Refusal.TheVariants as refusal
 use Rattle.blk_model.specs.Refusals.{first_refusal, no_key, no_name}
+use Rattle.blk_model.specs.Step.{step}
 use Rattle.blk_disk.specs.declared.tables.BlockFiles.{BlockFiles}
 use Rattle.blk_disk.specs.Tables.{is_node_among}
+use Rattle.law_state.specs.Commands.{ForKept}
 use Rattle.law_state.specs.OneCallLaws.{Names}
 use Rattle.blk_lru.specs.Damages.{IsTouchDamage}
 use Rattle.blk_handles.specs.Bindings.{Bindings, binding_of}
@@ -24,6 +27,14 @@ use Rattle.blk_evict.specs.Looking.{IsLookUpDamage}
 abbrev pub IsRefused : Answer → Type 0
 IsRefused (answer.Refused why) = Unit {0}
 IsRefused _ = ⊥
+
+-- the model refuses a request in a state
+abbrev pub RefusesIn : ℕ → Request → State → Type 0
+RefusesIn moment request state = IsRefused (answer_of (step state moment request).reply)
+
+-- where the model refuses the request no step is made, whatever is answered
+abbrev pub SparesRefused : (State → Image → Type 0) → (old new : Told) → ℕ → Request → Type 0
+SparesRefused keeps old new moment request = ForKept keeps old (λ state. RefusesIn moment request state → Stays old new)
 
 -- the cache keeps some state on the image
 abbrev pub KeepsAny : Cache → Image → Type 0

@@ -10,6 +10,7 @@ use Rattle.spec_format.specs.NewFolder.{IsMade}
 use Rattle.spec_folder.specs.Found.{found}
 use Rattle.law_state.specs.Keeping.{KeepsSome}
 use Rattle.law_state.specs.KeepingLaws.{HasMagic}
+use Rattle.spec_run.specs.Opening.{opened_id}
 use Rattle.blk_io.specs.declared.fault.Damage.{Damage}
 use Rattle.blk_index.specs.Start.{IsLookDamage}
 use Rattle.blk_disk.specs.declared.tables.BlockFiles.{BlockFiles}
@@ -17,7 +18,6 @@ use Rattle.blk_disk.specs.Loading.{IsLoadDamage}
 use Rattle.blk_disk.specs.Tables.{Agrees}
 use Rattle.blk_scan.specs.Faults.{IsScanDamage}
 use Rattle.blk_repair.specs.Repair.{IsRepairDamage}
-use Rattle.blk_cache.specs.Opening.{opened_id}
 use Rattle.blk_cache.specs.declared.opening.Opened.{Opened}
 
 -- the folder is one that was just made, at some moment

@@ -1,10 +1,10 @@
 -- The contracts of opening and of closing a cache.
-use Rattle.std.specs.Prelude.{◌≡◌, ℕ, Result, Ok, Err, if◌then◌else◌}
+use Rattle.std.specs.Prelude.{◌≡◌, ℕ, Result, Ok, Err}
 use Rattle.spec_image.specs.Image.{Image, Index, byte}
 use Rattle.spec_image.specs.Told.{Told}
 use Rattle.blk_model.specs.Holding.{open_state}
 use Rattle.blk_model.specs.State.{Bounds}
-use Rattle.spec_format.specs.Headers.{crash_of, create_time_of, index_version, this_id_of, unfinished, version_of}
+use Rattle.spec_format.specs.Headers.{crash_of, create_time_of, index_version, this_id_of, version_of}
 use Rattle.spec_folder.specs.Found.{HoldsStill, found}
 use Rattle.spec_folder.specs.Sound.{IsSound}
 use Rattle.spec_folder.specs.StandsFor.{StandsFor}
@@ -14,16 +14,17 @@ use Rattle.blk_io.specs.declared.fault.Fault.TheVariants as fault
 use Rattle.blk_audit.specs.declared.fault.ScanFault.{ScanFault}
 use Rattle.blk_audit.specs.declared.fault.ScanFault.TheVariants as scan
 use Rattle.blk_repair.specs.Endings.{EndsOrBreaksOff, EndsWithCrashWord}
-use Rattle.blk_repair.specs.Repair.{next_id}
+use Rattle.spec_run.specs.Opening.{opened_id}
 use Rattle.blk_cache.specs.declared.fault.OpenFault.{OpenFault}
 use Rattle.blk_cache.specs.declared.fault.OpenFault.TheVariants.{Device, Damaged, Memory}
 
--- the folder represents the state that is opened on the recovered contents of the image `entry`
-abbrev pub StandsOpened : Image → Image → Type 0
-StandsOpened entry image = (limits : Bounds) → StandsFor image (open_state (found entry) limits)
+-- the folder represents the state that is opened on the recovered contents of the image `entry`, in the session with the number that is next there
+pub record StandsOpened (entry image : Image) : Type 0 where
+  pub stands : (limits : Bounds) → StandsFor image (open_state (found entry) limits)
+  pub id : this_id_of (byte image Index) ≡ opened_id entry
 
 -- a folder was opened: after each write recovery gives what it gave before, no completion marker was made, and the last write alone sets the crash word; there
--- the folder represents the recovered contents, opened
+-- the folder represents the recovered contents, opened, in the next session
 abbrev pub OpensFolder : Image → Told → Told → Type 0
 OpensFolder entry old new = EndsWithCrashWord old new (HoldsStill entry) (StandsOpened entry)
 
@@ -31,10 +32,6 @@ OpensFolder entry old new = EndsWithCrashWord old new (HoldsStill entry) (Stands
 -- write of a whole opening sets the crash word
 abbrev pub OpensOrBreaksOff : Image → Told → Told → Type 0
 OpensOrBreaksOff entry old new = EndsOrBreaksOff old new (HoldsStill entry) (StandsOpened entry)
-
--- the number of the session that is opened on a folder: 1 for a folder that is made, else the one after the index's number
-abbrev pub opened_id : Image → ℕ
-opened_id image = if unfinished image then 1 else next_id (this_id_of (byte image Index))
 
 -- by its index the folder was made at this moment
 abbrev pub WasMadeAt : ℕ → Image → Type 0

@@ -1,5 +1,5 @@
 // A new object in a cache.
-ghost use Rattle.std.specs.Prelude.{◌≡◌, ◌≤◌, ◌<◌, ℕ, Bool, IfOk, IfSome, IsTrue, List, None, Ok, OnOk, Option, Some, false, length, slice_set, true};
+ghost use Rattle.std.specs.Prelude.{◌≡◌, ◌≤◌, ◌<◌, ℕ, Bool, IfOk, IfSome, IsTrue, List, None, Ok, OnOk, Option, Some, false, length, slice_set, true, OnErr};
 ghost use Rattle.std.specs.Option.{ForSome};
 ghost use Rattle.spec_image.specs.Told.{Passes, Stays, Told, MayWrite, ReadsOnly};
 ghost use Rattle.blk_io.specs.Faults.{IfDamaged, IfDevice};
@@ -20,7 +20,7 @@ ghost use Rattle.law_state.specs.Commands.{Does, IsDone, MayStop, MayStopAtEach}
 ghost use Rattle.blk_object.specs.FailedChecks.{IsFailedCheck};
 ghost use Rattle.blk_object.specs.Making.{CanHaveNew};
 ghost use Rattle.blk_cache.specs.CacheKeeping.{HoldsState};
-ghost use Rattle.blk_cache.specs.CommandClauses.{IsRefused, KeepsAny, open_refusal};
+ghost use Rattle.blk_cache.specs.CommandClauses.{IsRefused, KeepsAny, open_refusal, SparesRefused};
 ghost use Rattle.blk_cache.specs.Creating.{CountsOneMore, HasRoomFor, IsNotRefused, IsReadyForSome, IsReadyToCreate, KeepsWithRoom, WantsRoomAlone, create_refusal};
 ghost use Rattle.blk_evict.specs.Looking.{IsLookUpDamage};
 ghost use Rattle.blk_evict.specs.RoomPrinting.{FailsWhereItRose};
@@ -65,6 +65,7 @@ impl Cache {
         ensures quiet { IfOk result (λ answer. IsRefused answer → Stays (F.told folder.old) (F.told folder.new)) }
         ensures unchanged { IfOk result (λ answer. IsRefused answer → self.new ≡ self.old) }
 
+        ensures spares { OnErr result (SparesRefused (HoldsState self.old) (F.told folder.old) (F.told folder.new) moment (to_create handle key.now)) }
         ensures is_open { OnOk result (ForSome (F.told folder.new).files (IsOpen self.new.files)) }
         ensures notes { self.new.notes ≡ self.old.notes }
         ensures mark { self.new.mark ≡ self.old.mark }
@@ -114,6 +115,7 @@ impl Cache {
         ensures quiet { IfOk result (λ answer. IsRefused answer → Stays (F.told folder.old) (F.told folder.new)) }
         ensures unchanged { IfOk result (λ answer. IsRefused answer → self.new ≡ self.old) }
 
+        ensures spares { WantsRoomAlone self.old (F.told folder.old) moment handle key.now → OnErr result (SparesRefused (HoldsState self.old) (F.told folder.old) (F.told folder.new) moment (to_create handle key.now)) }
         ensures is_open { OnOk result (ForSome (F.told folder.new).files (IsOpen self.new.files)) }
         ensures notes { self.new.notes ≡ self.old.notes }
         ensures mark { self.new.mark ≡ self.old.mark }

@@ -1,5 +1,5 @@
 // The command Doom.
-ghost use Rattle.std.specs.Prelude.{◌≡◌, ℕ, IfOk, IfSome, IsTrue, None, Ok, OnOk, Some};
+ghost use Rattle.std.specs.Prelude.{◌≡◌, ℕ, IfOk, IfSome, IsTrue, None, Ok, OnOk, Some, OnErr};
 ghost use Rattle.std.specs.Option.{ForSome};
 ghost use Rattle.spec_image.specs.Told.{Passes, Stays, MayWrite};
 ghost use Rattle.blk_io.specs.Faults.{IfDamaged, IfDevice};
@@ -12,7 +12,7 @@ ghost use Rattle.law_state.specs.Commands.{Does, MayStopAtEach};
 ghost use Rattle.blk_object.specs.FailedChecks.{IsFailedCheck};
 ghost use Rattle.blk_object.specs.RemovingObjects.{FindsEither};
 ghost use Rattle.blk_cache.specs.CacheKeeping.{HoldsState};
-ghost use Rattle.blk_cache.specs.CommandClauses.{IsRefused, KeepsAny};
+ghost use Rattle.blk_cache.specs.CommandClauses.{IsRefused, KeepsAny, SparesRefused};
 ghost use Rattle.blk_cache.specs.Dooming.{CountsDoomed, ForEachOpen, doom_refusal};
 
 use crate::cache::Cache;
@@ -39,6 +39,7 @@ impl Cache {
         ensures quiet { IfOk result (λ answer. IsRefused answer → Stays (F.told folder.old) (F.told folder.new)) }
         ensures unchanged { IfOk result (λ answer. IsRefused answer → self.new ≡ self.old) }
 
+        ensures spares { (moment : ℕ) → OnErr result (SparesRefused (HoldsState self.old) (F.told folder.old) (F.told folder.new) moment (to_doom handle)) }
         ensures is_open { ForSome (F.told folder.new).files (IsOpen self.new.files) }
         ensures notes { self.new.notes ≡ self.old.notes }
         ensures mark { self.new.mark ≡ self.old.mark }

@@ -1,5 +1,5 @@
 // The command Flush.
-ghost use Rattle.std.specs.Prelude.{◌≡◌, ℕ, IfOk, IfSome, None, Ok};
+ghost use Rattle.std.specs.Prelude.{◌≡◌, ℕ, IfOk, IfSome, None, Ok, OnErr};
 ghost use Rattle.std.specs.Option.{ForSome};
 ghost use Rattle.spec_image.specs.Told.{Stays, MayWrite};
 ghost use Rattle.blk_io.specs.Faults.{IfDamaged, IfDevice};
@@ -9,7 +9,7 @@ ghost use Rattle.blk_disk.specs.Open.{IsOpen};
 ghost use Rattle.law_state.specs.Commands.{Does, ForKept, MayStopAtEach};
 ghost use Rattle.blk_object.specs.FailedChecks.{IsFailedCheck};
 ghost use Rattle.blk_cache.specs.CacheKeeping.{HoldsState};
-ghost use Rattle.blk_cache.specs.CommandClauses.{FlushesClean, IsRefused, KeepsAny};
+ghost use Rattle.blk_cache.specs.CommandClauses.{FlushesClean, IsRefused, KeepsAny, SparesRefused};
 ghost use Rattle.blk_cache.specs.Dooming.{doom_refusal};
 
 use crate::cache::Cache;
@@ -36,6 +36,7 @@ impl Cache {
         // A Flush of a clean object does nothing either.
         ensures idle { ForKept (HoldsState self.old) (F.told folder.old) (λ state. FlushesClean state (to_flush handle) → Stays (F.told folder.old) (F.told folder.new)) }
 
+        ensures spares { (moment : ℕ) → OnErr result (SparesRefused (HoldsState self.old) (F.told folder.old) (F.told folder.new) moment (to_flush handle)) }
         ensures is_open { ForSome (F.told folder.new).files (IsOpen self.new.files) }
         ensures notes { self.new.notes ≡ self.old.notes }
         ensures mark { self.new.mark ≡ self.old.mark }

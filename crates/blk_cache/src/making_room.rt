@@ -1,5 +1,5 @@
 // Space is made.
-ghost use Rattle.std.specs.Prelude.{◌≡◌, ◌≤◌, ◌&&◌, ◌||◌, ◌==◌, [], IfOk, None, OnOk, true};
+ghost use Rattle.std.specs.Prelude.{◌≡◌, ◌≤◌, ◌&&◌, ◌||◌, ◌==◌, [], IfOk, None, OnErr, OnOk, false, true};
 ghost use Rattle.spec_image.specs.Image.{Image};
 ghost use Rattle.std.specs.Option.{ForSome};
 ghost use Rattle.spec_image.specs.Told.{Passes, Rises, Stays, MayWrite};
@@ -51,6 +51,7 @@ impl Cache {
         // There is no space exactly where the map has none; then nothing is done.
         ensures full { IfOk result (λ answer. ForKept (HoldsState self.old) (F.told folder.old) (λ state. says_full answer ≡ is_full_room (room state [] bytes items))) }
         ensures stays { IfOk result (λ answer. says_full answer ≡ true → Stays (F.told folder.old) (F.told folder.new)) }
+        ensures tried { OnErr result (ForKept (HoldsState self.old) (F.told folder.old) (λ state. is_full_room (room state [] bytes items) ≡ false)) }
         ensures unchanged { IfOk result (λ answer. says_full answer ≡ true → self.new ≡ self.old) }
         ensures unprinted { IfOk result (λ answer. says_full answer ≡ true → K.written out.new ≡ K.written out.old) }
 
@@ -100,6 +101,7 @@ impl Cache {
         // There is no space exactly where the map has none; then nothing is done.
         ensures full { IfOk result (λ answer. ForCovered self.old parts.now (F.told folder.old) (λ state covered. says_full answer ≡ is_full_room (room state covered bytes items))) }
         ensures stays { IfOk result (λ answer. says_full answer ≡ true → Stays (F.told folder.old) (F.told folder.new)) }
+        ensures tried { OnErr result (ForCovered self.old parts.now (F.told folder.old) (λ state covered. is_full_room (room state covered bytes items) ≡ false)) }
         ensures unchanged { IfOk result (λ answer. says_full answer ≡ true → self.new ≡ self.old) }
         ensures unprinted { IfOk result (λ answer. says_full answer ≡ true → K.written out.new ≡ K.written out.old) }
 

@@ -1,5 +1,5 @@
 // The command Open.
-ghost use Rattle.std.specs.Prelude.{◌≡◌, ◌<◌, ◌^◌, IfOk, IfSome, IsTrue, None, Ok, Some, false, slice_set};
+ghost use Rattle.std.specs.Prelude.{◌≡◌, ◌<◌, ◌^◌, IfOk, IfSome, IsTrue, None, Ok, Some, false, slice_set, OnErr};
 ghost use Rattle.std.specs.Option.{ForSome};
 ghost use Rattle.spec_image.specs.Told.{Stays, MayWrite};
 ghost use Rattle.blk_io.specs.Faults.{IfDamaged, IfDevice};
@@ -12,7 +12,7 @@ ghost use Rattle.blk_handles.specs.Bindings.{AreShared, binding_for, binding_of,
 ghost use Rattle.law_state.specs.Commands.{Does, MayStopAtEach};
 ghost use Rattle.blk_object.specs.FailedChecks.{IsFailedCheck};
 ghost use Rattle.blk_cache.specs.CacheKeeping.{HoldsState};
-ghost use Rattle.blk_cache.specs.CommandClauses.{IsOpenDamage, IsRefused, KeepsAny, OnlyNamesChange, charged_with, open_refusal};
+ghost use Rattle.blk_cache.specs.CommandClauses.{IsOpenDamage, IsRefused, KeepsAny, OnlyNamesChange, charged_with, open_refusal, SparesRefused};
 
 use crate::cache::Cache;
 use blk_addr::Addr;
@@ -45,6 +45,7 @@ impl Cache {
         ensures quiet { IfOk result (λ answer. IsRefused answer → Stays (F.told folder.old) (F.told folder.new)) }
         ensures unchanged { IfOk result (λ answer. IsRefused answer → self.new ≡ self.old) }
 
+        ensures spares { OnErr result (SparesRefused (HoldsState self.old) (F.told folder.old) (F.told folder.new) moment (to_open handle key.now)) }
         ensures is_open { ForSome (F.told folder.new).files (IsOpen self.new.files) }
         ensures notes { self.new.notes ≡ self.old.notes }
         ensures mark { self.new.mark ≡ self.old.mark }

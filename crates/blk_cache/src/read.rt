@@ -1,5 +1,5 @@
 // The command Read.
-ghost use Rattle.std.specs.Prelude.{◌≡◌, IfOk, IfSome, IsTrue, None, Ok, false};
+ghost use Rattle.std.specs.Prelude.{◌≡◌, IfOk, IfSome, IsTrue, None, Ok, false, OnErr};
 ghost use Rattle.std.specs.Option.{ForSome};
 ghost use Rattle.spec_image.specs.Told.{Stays, MayWrite};
 ghost use Rattle.blk_io.specs.Faults.{IfDamaged, IfDevice};
@@ -13,7 +13,7 @@ ghost use Rattle.blk_lru.specs.Lists.{IsListed};
 ghost use Rattle.blk_object.specs.FailedChecks.{IsFailedCheck};
 ghost use Rattle.blk_cache.specs.Asking.{early_stream_refusal};
 ghost use Rattle.blk_cache.specs.CacheKeeping.{HoldsState};
-ghost use Rattle.blk_cache.specs.CommandClauses.{IsRefused, KeepsAny};
+ghost use Rattle.blk_cache.specs.CommandClauses.{IsRefused, KeepsAny, SparesRefused};
 ghost use Rattle.blk_cache.specs.Reading.{IsCommandReadDamage, UsesItem, bytes_there};
 
 use crate::asking::{Asked, NamedStream};
@@ -47,6 +47,7 @@ impl Cache {
         ensures refuses { IfSome (early_stream_refusal self.now.handles handle stream) (λ why. result ≡ Ok (answer.Refused why)) }
         ensures quiet { IfOk result (λ answer. IsRefused answer → Stays (F.told folder.old) (F.told folder.new)) }
 
+        ensures spares { OnErr result (SparesRefused (HoldsState self.now) (F.told folder.old) (F.told folder.new) moment (to_read handle stream offset count)) }
         ensures is_open { ForSome (F.told folder.new).files (IsOpen self.now.files) }
 
         // An observable folder reports no corruption where the cache keeps a state.

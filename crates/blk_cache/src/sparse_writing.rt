@@ -1,5 +1,5 @@
 // The command SparseWrite.
-ghost use Rattle.std.specs.Prelude.{◌≡◌, ◌≤◌, ◌<◌, ◌+◌, ◌^◌, ℕ, [], IfOk, IfSome, IsSome, IsTrue, None, Ok, OnOk, length};
+ghost use Rattle.std.specs.Prelude.{◌≡◌, ◌≤◌, ◌<◌, ◌+◌, ◌^◌, ℕ, [], IfOk, IfSome, IsSome, IsTrue, None, Ok, OnOk, length, OnErr};
 ghost use Rattle.std.specs.Option.{ForSome};
 ghost use Rattle.spec_image.specs.Told.{Stays, MayWrite};
 ghost use Rattle.blk_io.specs.Faults.{IfDamaged, IfDevice};
@@ -14,7 +14,7 @@ ghost use Rattle.law_state.specs.Commands.{Does, MayStopAtEach};
 ghost use Rattle.blk_object.specs.FailedChecks.{IsFailedCheck};
 ghost use Rattle.blk_sparse.specs.SparseWrites.{signature_to};
 ghost use Rattle.blk_cache.specs.CacheKeeping.{HoldsState};
-ghost use Rattle.blk_cache.specs.CommandClauses.{IsRefused, KeepsAny};
+ghost use Rattle.blk_cache.specs.CommandClauses.{IsRefused, KeepsAny, SparesRefused};
 ghost use Rattle.blk_cache.specs.Listing.{OnlyRoomChanges};
 ghost use Rattle.blk_cache.specs.SparseTargets.{AsksToStoreFor, HasRoomToStoreFor, NamesTargetFor, NamesTarget, early_store_refusal};
 ghost use Rattle.blk_cache.specs.SparseWriting.{sparse_write_of};
@@ -72,6 +72,7 @@ impl Cache {
         ensures quiet { IfOk result (λ answer. IsRefused answer → Stays (F.told folder.old) (F.told folder.new)) }
         ensures unchanged { IfOk result (λ answer. IsRefused answer → OnlyRoomChanges self.old self.new) }
 
+        ensures spares { OnErr result (SparesRefused (HoldsState self.old) (F.told folder.old) (F.told folder.new) request.now.moment (sparse_write_of request.now)) }
         ensures is_open { OnOk result (ForSome (F.told folder.new).files (IsOpen self.new.files)) }
         ensures notes { self.new.notes ≡ self.old.notes }
         ensures mark { self.new.mark ≡ self.old.mark }
@@ -127,6 +128,7 @@ impl Cache {
         ensures quiet { IfOk result (λ answer. IsRefused answer → Stays (F.told folder.old) (F.told folder.new)) }
         ensures unchanged { IfOk result (λ answer. IsRefused answer → OnlyRoomChanges self.old self.new) }
 
+        ensures spares { NamesTargetFor self.old (F.told folder.old) request.now target.now → OnErr result (SparesRefused (HoldsState self.old) (F.told folder.old) (F.told folder.new) request.now.moment (sparse_write_of request.now)) }
         ensures is_open { OnOk result (ForSome (F.told folder.new).files (IsOpen self.new.files)) }
         ensures notes { self.new.notes ≡ self.old.notes }
         ensures mark { self.new.mark ≡ self.old.mark }
@@ -172,6 +174,7 @@ impl Cache {
         ensures quiet { IfOk result (λ answer. IsRefused answer → Stays (F.told folder.old) (F.told folder.new)) }
         ensures unchanged { IfOk result (λ answer. IsRefused answer → OnlyRoomChanges self.old self.new) }
 
+        ensures spares { NamesTargetFor self.old (F.told folder.old) request.now target.now → OnErr result (SparesRefused (HoldsState self.old) (F.told folder.old) (F.told folder.new) request.now.moment (sparse_write_of request.now)) }
         ensures is_open { OnOk result (ForSome (F.told folder.new).files (IsOpen self.new.files)) }
         ensures notes { self.new.notes ≡ self.old.notes }
         ensures mark { self.new.mark ≡ self.old.mark }
@@ -217,6 +220,7 @@ impl Cache {
         ensures quiet { IfOk result (λ answer. IsRefused answer → Stays (F.told folder.old) (F.told folder.new)) }
         ensures unchanged { IfOk result (λ answer. IsRefused answer → OnlyRoomChanges self.old self.new) }
 
+        ensures spares { AsksToStoreFor self.old (F.told folder.old) request.now target.now rise.now → OnErr result (SparesRefused (HoldsState self.old) (F.told folder.old) (F.told folder.new) request.now.moment (sparse_write_of request.now)) }
         ensures is_open { OnOk result (ForSome (F.told folder.new).files (IsOpen self.new.files)) }
         ensures notes { self.new.notes ≡ self.old.notes }
         ensures mark { self.new.mark ≡ self.old.mark }

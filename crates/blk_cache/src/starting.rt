@@ -8,11 +8,12 @@ ghost use Rattle.blk_model.specs.Holding.{open_state};
 ghost use Rattle.spec_format.specs.BlockFiles.{IsDamagedBy, IsUsable};
 ghost use Rattle.spec_format.specs.Headers.{IsUnfinished, this_id_of};
 ghost use Rattle.spec_folder.specs.Found.{found};
+ghost use Rattle.spec_run.specs.Opening.{opened_id};
 ghost use Rattle.blk_io.specs.Faults.{damage_of};
 ghost use Rattle.blk_cache.specs.BoundNames.{AreAllFree};
 ghost use Rattle.blk_cache.specs.CacheKeeping.{KeepsState};
 ghost use Rattle.blk_cache.specs.Opened.{IsOpeningDamage};
-ghost use Rattle.blk_cache.specs.Opening.{IfOpenDamaged, IfOpenDevice, IfOpenMemory, OpensFolder, OpensOrBreaksOff, WasMadeAt, opened_id};
+ghost use Rattle.blk_cache.specs.Opening.{IfOpenDamaged, IfOpenDevice, IfOpenMemory, OpensFolder, OpensOrBreaksOff, WasMadeAt};
 
 use crate::cache::Cache;
 use crate::fault::OpenFault;
@@ -50,8 +51,8 @@ impl Cache {
         ensures made { OnOk result (ForSome (F.told f.old).files (λ from. IsUnfinished from → ForSome (F.told f.new).files (WasMadeAt moment))) }
 
         // At each word recovery gives what it gave before, and the folder is uninitialized or well formed where it was. The step that
-        // marks the session as open is the last, and where it was made the folder represents the state opened on that, whatever is
-        // answered.
+        // marks the session as open is the last, and where it was made the folder represents the state opened on that, in the next
+        // session, whatever is answered.
         ensures stops { ForSome (F.told f.old).files (λ from. OpensOrBreaksOff from (F.told f.old) (F.told f.new)) }
         ensures last { OnOk result (ForSome (F.told f.old).files (λ from. OpensFolder from (F.told f.old) (F.told f.new))) }
 

@@ -13,9 +13,9 @@ ghost use Rattle.law_state.specs.Commands.{Does, ForKept, IsNoted, IsStepped, Ma
 ghost use Rattle.blk_object.specs.FailedChecks.{IsFailedCheck};
 ghost use Rattle.blk_script.specs.Reply.{outcome_text};
 ghost use Rattle.blk_cache.specs.CacheKeeping.{KeepsState, HoldsState};
-ghost use Rattle.blk_cache.specs.CommandClauses.{FlushesClean, IsOnSparse, IsRefused, KeepsAny, OnlyNotesChange};
+ghost use Rattle.blk_cache.specs.CommandClauses.{FlushesClean, IsOnSparse, IsRefused, KeepsAny, OnlyNotesChange, SparesRefused};
 ghost use Rattle.blk_evict.specs.RoomPrinting.{FailsWhereItRose};
-ghost use Rattle.blk_cache.specs.Stepping.{IfDone, IfSink, IfStepDamaged, IfStepDevice, SaysEvicted, SaysPrefix};
+ghost use Rattle.blk_cache.specs.Stepping.{FailsBefore, IfDone, IfSink, IfStepDamaged, IfStepDevice, NotesAlone, SaysEvicted, SaysPrefix};
 
 use crate::cache::Cache;
 use crate::fault::StepFault;
@@ -67,11 +67,11 @@ impl Cache {
         // A Flush of a clean object makes its note alone.
         ensures idle { IfDone result (ForKept (KeepsState self.old) (F.told f.old) (λ state. FlushesClean state (request_of command.now) → Applies (F.told f.old) (F.told f.new) (Note (note_number (self.old.notes + 1)) ∷ []))) }
 
-        // What the command evicts is printed, and then the reply; where there is no answer, a prefix of it; where the folder failed nothing of the reply, or it
-        // failed in the reply, after the note.
+        // What the command evicts is printed, and then the reply; where there is no answer, a prefix of it; where the folder failed nothing of the reply, and no
+        // step was made of a command that the model refuses; or it failed in the reply, after the note, which is the only step of such a command.
         ensures printed { OnOk result (ForKept (KeepsState self.old) (F.told f.old) (λ state. K.written out.new ≡ option_map (λ w. w ++ outcome_text (step state moment (request_of command.now))) (K.written out.old))) }
         ensures front { ForKept (KeepsState self.old) (F.told f.old) (λ state. Appends (K.written out.old) (K.written out.new) (outcome_text (step state moment (request_of command.now)))) }
-        ensures unanswered { IfStepDevice result (SaysPrefix (KeepsState self.old) (F.told f.old) moment (request_of command.now) (K.written out.old) (K.written out.new) ⊎ ForKept (KeepsState self.old) (F.told f.old) (IsNoted (F.told f.old) (F.told f.new) moment (request_of command.now) (note_number (self.old.notes + 1)))) }
+        ensures unanswered { IfStepDevice result (FailsBefore (KeepsState self.old) (F.told f.old) (F.told f.new) moment (request_of command.now) (K.written out.old) (K.written out.new) ⊎ ForKept (KeepsState self.old) (F.told f.old) (NotesAlone (F.told f.old) (F.told f.new) moment (request_of command.now) (note_number (self.old.notes + 1)))) }
 
         ensures is_open { IfDone result (ForSome (F.told f.new).files (IsOpen self.new.files)) }
         ensures damaged { IfStepDamaged result (IsFailedCheck self.new.files (F.told f.new)) }
@@ -154,6 +154,7 @@ impl Cache {
         ensures front { SaysPrefix (HoldsState self.old) (F.told folder.old) moment (request_of command.now) (K.written out.old) (K.written out.new) }
         ensures failed { FailsWhereItRose failed.old failed.new (K.faults out.old) (K.faults out.new) }
         ensures quiet { IfOk result (λ answer. IsRefused answer → Stays (F.told folder.old) (F.told folder.new)) }
+        ensures spares { OnErr result (SparesRefused (HoldsState self.old) (F.told folder.old) (F.told folder.new) moment (request_of command.now)) }
         ensures idle { ForKept (HoldsState self.old) (F.told folder.old) (λ state. FlushesClean state (request_of command.now) → Stays (F.told folder.old) (F.told folder.new)) }
         ensures notes { self.new.notes ≡ self.old.notes }
         ensures mark { self.new.mark ≡ self.old.mark }
@@ -221,6 +222,7 @@ impl Cache {
         ensures front { SaysPrefix (HoldsState self.old) (F.told folder.old) moment (request_of command.now) (K.written out.old) (K.written out.new) }
         ensures failed { FailsWhereItRose failed.old failed.new (K.faults out.old) (K.faults out.new) }
         ensures quiet { IfOk result (λ answer. IsRefused answer → Stays (F.told folder.old) (F.told folder.new)) }
+        ensures spares { OnErr result (SparesRefused (HoldsState self.old) (F.told folder.old) (F.told folder.new) moment (request_of command.now)) }
         ensures idle { ForKept (HoldsState self.old) (F.told folder.old) (λ state. FlushesClean state (request_of command.now) → Stays (F.told folder.old) (F.told folder.new)) }
         ensures notes { self.new.notes ≡ self.old.notes }
         ensures mark { self.new.mark ≡ self.old.mark }

@@ -5,7 +5,7 @@ use Rattle.std.proofs.lemmas.List.{append-nil, length-append, take-append-le}
 use Rattle.spec_image.specs.Image.{Image}
 use Rattle.spec_image.specs.Notes.{notes_in}
 use Rattle.spec_image.specs.Steps.{after}
-use Rattle.spec_image.specs.Told.{Told, PassesAny}
+use Rattle.spec_image.specs.Told.{AppliesPrefix, Told, PassesAny}
 use Rattle.spec_image.proofs.Quiet.{any_end, any_weaker}
 use Rattle.blk_model.specs.Holding.{open_state, rest}
 use Rattle.blk_model.specs.State.{Bounds, State}
@@ -18,7 +18,7 @@ use Rattle.blk_io.specs.declared.fault.Fault.TheVariants as fault
 use Rattle.blk_io.specs.Streams.{Appends, Readings, later_of}
 use Rattle.spec_run.specs.Inputs.{by_lines}
 use Rattle.spec_run.specs.Lines.{lines, whole_lines}
-use Rattle.spec_run.specs.Opening.{FailsToOpen, Opens, open_mark}
+use Rattle.spec_run.specs.Opening.{FailsToOpen, Opens, close_mark, open_mark}
 use Rattle.spec_run.specs.Progress.{IsWholeRun, StopsAfter, StopsPast}
 use Rattle.spec_run.specs.Replies.{PrintsBeforeLast, PrintsNoMore}
 use Rattle.spec_run.specs.Run.{Run, Stamped, Turn, bound_names, clock_after, closings, commands, commands_of, cut_after, readings_in, readings_of, refuse, run_of, state_after, text_of, turns}
@@ -41,7 +41,7 @@ use Rattle.blk_run.specs.Session.{EndsAs, FixedRuns, IsEnded, IsUnopened, Outsid
 
 module _ (far : SoFar) (keeps : State → Image → Type 0) (stands_for : (state : State) (image : Image) → keeps state image → StandsFor image state)
     (notes left : ℕ) (told new : Told) (clock_old clock_new : Option Readings) (closes : ClosesAll (Ok tt) far keeps notes left told clock_old clock_new)
-    (passes : ForSome told.files (λ image. (state : State) → keeps state image → PassesAny told new (HoldsStill image))) where
+    (part : AppliesPrefix told new (close_mark ∷ [])) (passes : ForSome told.files (λ image. (state : State) → keeps state image → PassesAny told new (HoldsStill image))) where
   abbrev stands : StandsAt (with_more far closes.commands) keeps notes left told
   stands = closes.closes.stands
 
@@ -53,8 +53,8 @@ module _ (far : SoFar) (keeps : State → Image → Type 0) (stands_for : (state
 
   whole : IsWholeRun far.from far.opened (far.done ++ closes.commands) far.start new
   whole =
-      ended far.from far.opened (far.done ++ closes.commands) far.start told new stands.began stands.progress
-      (λ image here. subst (λ (i : Image). PassesAny told new (HoldsStill i)) (some_same (sym stands.here ∙ here)) held)
+      ended far.from far.opened (far.done ++ closes.commands) far.start told new stands.began stands.progress part
+      (λ image here other is. subst (λ (i : Image). HoldsStill i other) (some_same (sym stands.here ∙ here)) (any_end held other is))
 
   -- the folder was closed
   pub ends_closed : ForSome told.files (λ image. (state : State) → keeps state image → ForSome new.files EndsSession) → EndsRun (Ok tt) far new clock_old clock_new

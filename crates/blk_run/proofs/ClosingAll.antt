@@ -2,7 +2,7 @@
 use Rattle.std.specs.List.{position_or_len}
 use Rattle.std.specs.Prelude.{nat_lt}
 use Rattle.std.proofs.lemmas.Bool.{ltb-false}
-use Rattle.std.proofs.Common.{ℕ, zero, suc, cond, get_or, ◌+◌, ◌*◌, ◌<◌, ◌≤◌, ◌≡◌, Bool, true, false, List, [], ◌∷◌, ◌++◌, length, Option, None, Some, Ok, Err, Result, IfSome, refl, sym, ◌∙◌, ap, subst, arith, append_assoc}
+use Rattle.std.proofs.Common.{ℕ, zero, suc, cond, get_or, ◌+◌, ◌*◌, ◌<◌, ◌≤◌, ◌≡◌, inl, inr, Bool, true, false, List, [], ◌∷◌, ◌++◌, length, Option, None, Some, Ok, Err, Result, IfSome, refl, sym, ◌∙◌, ap, subst, arith, append_assoc}
 use Rattle.std.specs.Prelude.{IsErrAnd, is_some, position, slice_index_or, slice_set}
 use Rattle.std.specs.List.{count_by}
 use Rattle.std.specs.Option.{option_map, ForSome}
@@ -21,8 +21,10 @@ use Rattle.blk_model.specs.Request.{to_close}
 use Rattle.blk_model.specs.Step.{step}
 use Rattle.law_state.specs.Commands.{ForKept, IsNoted, IsStepped, note_number}
 use Rattle.spec_run.specs.Run.{Stamped, bound_names, clock_after, closings, stamped_by, state_after, state_then}
-use Rattle.spec_run.specs.Progress.{StopsPast}
-use Rattle.spec_run.proofs.Closing.{few_names, least_closed, least_of_slots, none_closed, none_of_slots}
+use Rattle.spec_run.specs.Script.{is_refused}
+use Rattle.spec_run.specs.Progress.{MakesCommand, NotesCommand, StopsPast}
+use Rattle.spec_run.proofs.Closing.{close_passes, few_names, least_closed, least_of_slots, none_closed, none_of_slots}
+use Rattle.spec_run.proofs.StepFacts.{true_false}
 use Rattle.spec_run.proofs.CommandStates.{state_after-one}
 use Rattle.spec_run.proofs.Composing.{stopped_past}
 use Rattle.blk_run.specs.Playing.{SoFar, StandsAt, state_now, with_more}
@@ -118,6 +120,17 @@ module _ {Y : Type 0} (slots : List (Option Y)) (keeps : State → Image → Typ
     state_is : state_now (with_more far (so_far.closed ++ command ∷ [])) ≡ state_then state command
     state_is = ap (state_after far.opened) (sym (append_assoc far.done so_far.closed (command ∷ []))) ∙ state_after-one far.opened (far.done ++ so_far.closed) command
 
+    -- it isn't refused
+    passes : is_refused (step state moment (to_close name)) ≡ false
+    passes = close_passes state moment name (valid state so_far.stands.image so_far.stands.kept) (least_of_slots slots state name (same state so_far.stands.image so_far.stands.kept) at).bound
+
+    notes_close : (old new : Told) → IsNoted old new moment (to_close name) (note_number (notes + 1)) state → NotesCommand old new command (note_number (notes + 1)) state
+    notes_close old new noted = record { noted = noted; alone = λ is. true_false is passes }
+
+    makes_close : (old new : Told) → IsStepped old new moment (to_close name) (note_number (notes + 1)) state → MakesCommand old new command (note_number (notes + 1)) state
+    makes_close old new (inl part) = inl (record { passes = part; untouched = λ is. true_false is passes })
+    makes_close old new (inr noted) = inr (notes_close old new noted)
+
     -- it was done
     pub one_closed : (keeps_new : State → Image → Type 0) (notes_new : ℕ) (new : Told) (clock_new : Option Readings) → clock_new ≡ option_map later_of clock_mid
         → ForKept keeps now (IsNoted now new moment (to_close name) (note_number (notes + 1))) → ForKept keeps now (λ s. ForSome new.files (keeps_new (step s moment (to_close name)).state)) → notes_new ≡ note_number (notes + 1)
@@ -128,7 +141,7 @@ module _ {Y : Type 0} (slots : List (Option Y)) (keeps : State → Image → Typ
         let enough : (left + 2 * bound_after) + 2 ≡ left + 2 * length (bound_names state) = omega (arith, one_less) in
         let here : StandsAt (with_more far so_far.closed) keeps notes ((left + 2 * bound_after) + 2) now = subst (λ (n : ℕ). StandsAt (with_more far so_far.closed) keeps notes n now) (sym enough) stands in
         let next : StandsAt (with_more (with_more far so_far.closed) (command ∷ [])) keeps_new notes_new (left + 2 * bound_after) new =
-        stands_after (with_more far so_far.closed) command keeps keeps_new notes notes_new (left + 2 * bound_after) now new here (noted stands.image stands.here state stands.kept) (kept stands.image stands.here state stands.kept) counts in
+        stands_after (with_more far so_far.closed) command keeps keeps_new notes notes_new (left + 2 * bound_after) now new here (notes_close now new (noted stands.image stands.here state stands.kept)) (kept stands.image stands.here state stands.kept) counts in
         let more : StandsAt (with_more far (so_far.closed ++ command ∷ [])) keeps_new notes_new (left + 2 * bound_after) new = stands_joined far so_far.closed (command ∷ []) (so_far.closed ++ command ∷ []) keeps_new notes_new (left + 2 * bound_after) new refl next in
         let longer : length (so_far.closed ++ command ∷ []) ≡ length so_far.closed + 1 = length-append so_far.closed (command ∷ []) in
         record {
@@ -163,7 +176,8 @@ module _ {Y : Type 0} (slots : List (Option Y)) (keeps : State → Image → Typ
         stops : StopsPast far.from far.opened (far.done ++ (so_far.closed ++ command ∷ following clock_old)) (length far.done) far.start new
         stops =
             let made = stopped_past far.from far.opened (far.done ++ so_far.closed) (following clock_old) far.start now new command so_far.stands.began so_far.stands.progress
-            (subst (λ (n : ℕ). IsStepped now new moment (to_close name) n state) (next_note (with_more far so_far.closed) keeps notes (left + 2 * length (bound_names (state_then state command))) now room) (stepped so_far.stands.image so_far.stands.here state so_far.stands.kept)) in
+            (subst (λ (n : ℕ). MakesCommand now new command n state) (next_note (with_more far so_far.closed) keeps notes (left + 2 * length (bound_names (state_then state command))) now room)
+            (makes_close now new (stepped so_far.stands.image so_far.stands.here state so_far.stands.kept))) in
             let fewer = made.count in
             let all = length-append far.done so_far.closed in
             subst (λ (l : List Stamped). StopsPast far.from far.opened l (length far.done) far.start new) (append_assoc far.done so_far.closed (command ∷ following clock_old))

@@ -1,15 +1,16 @@
 -- The run of `count`: its line is printed, no name is closed, and the folder is closed.
-use Rattle.std.proofs.Common.{ℕ, ◌+◌, ◌*◌, ◌≡◌, true, false, List, [], ◌++◌, Option, None, Some, Ok, Err, Result, OnOk, refl, sym, ◌∙◌, ap, subst}
+use Rattle.std.proofs.Common.{ℕ, ◌+◌, ◌*◌, ◌≡◌, true, false, List, [], ◌∷◌, ◌++◌, Option, None, Some, Ok, Err, Result, OnOk, refl, sym, ◌∙◌, ap, subst}
 use Rattle.std.specs.Prelude.{is_some, position, slice_index_or}
 use Rattle.std.specs.Option.{option_map, ForSome}
 use Rattle.std.proofs.lemmas.List.Quantifiers.{position-Some}
 use Rattle.spec_image.specs.Image.{Image}
-use Rattle.spec_image.specs.Told.{PassesAny, Told}
+use Rattle.spec_image.specs.Told.{AppliesPrefix, PassesAny, Told}
 use Rattle.blk_io.specs.Streams.{Appends, Readings, later_of}
 use Rattle.blk_model.specs.Holding.{open_state}
 use Rattle.blk_model.specs.Sizes.{handle_names}
 use Rattle.blk_model.specs.State.{Bounds, State}
 use Rattle.spec_folder.specs.Found.{HoldsStill, found}
+use Rattle.spec_run.specs.Opening.{close_mark}
 use Rattle.spec_run.specs.Script.{count_script, totals_line, totals_text}
 use Rattle.spec_run.specs.Run.{turns}
 use Rattle.blk_cache.specs.declared.cache.Cache.{Cache}
@@ -69,7 +70,7 @@ module _ (cache : Cache) (free : AreAllFree cache.handles) (from : Image) (limit
     (told final : Told) (w_old w_new : Option (List ℕ)) (sink : Type 0) (r : Result (Unit {0}) StepFault)
     (printed : OnOk r (w_new ≡ option_map (λ (w : List ℕ). w ++ totals_line cache.items cache.bytes) w_old)) (front : Appends w_old w_new (totals_line cache.items cache.bytes)) (only : IsOnlySink r)
     (at : StandsAt (record { start = start; from = from; opened = open_state (found from) limits; done = [] }) (KeepsState cache) cache.notes (2 * handle_names) told)
-    (passes : ForSome told.files (λ image. (state : State) → KeepsState cache state image → PassesAny told final (HoldsStill image))) where
+    (part : AppliesPrefix told final (close_mark ∷ [])) (passes : ForSome told.files (λ image. (state : State) → KeepsState cache state image → PassesAny told final (HoldsStill image))) where
   abbrev far : SoFar
   far = record { start = start; from = from; opened = open_state (found from) limits; done = [] }
 
@@ -86,10 +87,10 @@ module _ (cache : Cache) (free : AreAllFree cache.handles) (from : Image) (limit
   pub count_closed : ForSome told.files (λ image. (state : State) → KeepsState cache state image → ForSome final.files opening.EndsSession) → FixedRuns (script_status r false) count_script limits from readings sink old new
   count_closed ends =
       script_closed count_script from limits readings old there is next read sink (KeepsState cache) cache.notes told new (around told w_new next false) refl r (only_closes r only) plays
-      (λ run stands. ends_closed run (KeepsState cache) (cache_stands cache) cache.notes 0 told final next next (free_closes cache run 0 told next free stands) passes ends)
+      (λ run stands. ends_closed run (KeepsState cache) (cache_stands cache) cache.notes 0 told final next next (free_closes cache run 0 told next free stands) part passes ends)
 
   -- the folder failed where it was to be closed
   pub count_unclosed : IfSink r sink → FixedRuns status.Device count_script limits from readings sink old new
   count_unclosed fell =
       script_unclosed count_script from limits readings old there is next read sink (KeepsState cache) cache.notes told new (around told w_new next false) refl r (only_closes r only) fell plays
-      (λ run stands. ends_unfinished run (KeepsState cache) (cache_stands cache) cache.notes 0 told final next next (free_closes cache run 0 told next free stands) passes)
+      (λ run stands. ends_unfinished run (KeepsState cache) (cache_stands cache) cache.notes 0 told final next next (free_closes cache run 0 told next free stands) part passes)

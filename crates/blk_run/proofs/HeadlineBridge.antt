@@ -8,7 +8,7 @@ use Rattle.std.proofs.lemmas.List.Elements.{All-head, All-tail}
 use Rattle.spec_image.specs.Bytes.{word_bytes}
 use Rattle.spec_image.specs.Image.{Image, Index, same_file}
 use Rattle.spec_image.specs.Steps.{TrailStep, Word, SetLength, Delete, Note, word_step}
-use Rattle.spec_image.specs.Told.{Told}
+use Rattle.spec_image.specs.Told.{AppliesPrefix, Told}
 use Rattle.blk_model.proofs.Same.{same_bytes}
 use Rattle.blk_model.specs.Holding.{open_state}
 use Rattle.blk_model.specs.State.{Bounds, State, named_by}
@@ -17,11 +17,11 @@ use Rattle.spec_folder.specs.Layout.{Layout}
 use Rattle.spec_folder.specs.StandsFor.{StandsFor}
 use Rattle.law_state.proofs.Keeping.{kept-stands}
 use Rattle.blk_handles.specs.Bindings.{Binding, binding_of}
-use Rattle.blk_repair.specs.Counters.{is_in_crash_word, writes_crash_word}
+use Rattle.blk_repair.specs.Counters.{crash_place, is_in_crash_word, writes_crash_word}
 use Rattle.blk_cache.specs.declared.cache.Cache.{Cache}
 use Rattle.blk_cache.specs.CacheKeeping.{IsBoundAs, KeepsState}
 use Rattle.blk_cache.specs.Opening as opening
-use Rattle.spec_run.specs.Opening.{FailsToOpen, Opens, has_opened, marks_open}
+use Rattle.spec_run.specs.Opening.{FailsToOpen, Opens, close_mark, has_opened, marks_open}
 use Rattle.spec_run.specs.Run.{bound_names}
 use Rattle.spec_run.specs.Laws.{IsLeastBound}
 use Rattle.spec_run.proofs.Closing.{least_of_slots, none_closed, none_of_slots}
@@ -61,7 +61,8 @@ opened_by_start from limits old new there opens = record {
   unmarked = unmarked opens.before opens.first;
   applies = opens.applies;
   along = opens.along from there;
-  stands = λ image here. opens.leaves image here limits;
+  stands = λ image here. (opens.leaves image here).stands limits;
+  id = λ image here. (opens.leaves image here).id;
 }
 
 -- what it opened, or where it broke off
@@ -74,6 +75,13 @@ failed_by_start from limits old new there (inl broken) = inl (record {
   along = broken.passes.along from there;
 })
 failed_by_start from limits old new there (inr opens) = inr (opened_by_start from limits old new there opens)
+
+-- The end.
+
+-- the step that the cache ends its session with
+pub ends_by_mark : (old new : Told) → AppliesPrefix old new (word_step Index crash_place 0) → AppliesPrefix old new (close_mark ∷ [])
+unfolding word_step
+ends_by_mark old new part = part
 
 -- What is kept.
 

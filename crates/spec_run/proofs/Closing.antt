@@ -12,8 +12,9 @@ use Rattle.blk_model.specs.Effects.{closed, effect, released, with_name, number_
 use Rattle.blk_model.specs.Refusals.{refusals, evicted, names_none}
 use Rattle.blk_model.specs.Request.{to_close}
 use Rattle.blk_model.specs.Room.{without}
-use Rattle.blk_model.specs.Step.{step, outcome}
+use Rattle.blk_model.specs.Step.{step, outcome, reply}
 use Rattle.blk_io.specs.Streams.{reading_of}
+use Rattle.spec_run.specs.Script.{is_refused}
 use Rattle.spec_run.specs.Run.{bound_from, bound_names, closings}
 use Rattle.spec_run.specs.Laws.{IsLeastBound, LeastNamesAreClosedFirst, NoneIsClosedWhereNoneIsBound, ClosesFreeTheirName, BoundNamesAreFew}
 
@@ -100,6 +101,21 @@ bound_is_named state name valid bound = both (nat_le handle_names name) (named_b
 pub name_freed : ClosesFreeTheirName
 unfolding step refusals
 name_freed state moment name valid bound = after_close state moment name (names_none state name) (bound_is_named state name valid bound)
+
+-- it isn't refused
+not_refused : (state : State) (moment name : ℕ) (b : Bool) → b ≡ false
+    → is_refused (outcome moment (to_close name) state (if b then Some refusal.BadHandle else None)) ≡ false
+unfolding outcome reply
+not_refused state moment name true bad = absurd (clash bad)
+  where
+    clash : true ≡ false → ⊥
+    clash c = cc
+not_refused state moment name false bad = refl
+
+pub close_passes : (state : State) (moment name : ℕ) → IsValidState state → is_some (named_by state name) ≡ true
+    → is_refused (step state moment (to_close name)) ≡ false
+unfolding step refusals
+close_passes state moment name valid bound = not_refused state moment name (names_none state name) (bound_is_named state name valid bound)
 
 -- the least bound name is closed first
 pub least_closed : LeastNamesAreClosedFirst

@@ -1,18 +1,20 @@
 -- A run goes on with a command, or crashes in one, between two, or at its end.
-use Rattle.std.proofs.Common.{ℕ, ◌+◌, ◌≡◌, inl, inr, true, List, [], ◌∷◌, ◌++◌, length, Option, Some, refl, sym, ◌∙◌, ap, subst, arith, append_assoc}
+use Rattle.std.proofs.Common.{ℕ, ◌+◌, ◌≡◌, inl, inr, Bool, true, false, List, [], ◌∷◌, ◌++◌, length, Option, Some, refl, sym, ◌∙◌, ap, subst, arith, append_assoc}
 use Rattle.std.specs.Option.{option_map}
 use Rattle.std.proofs.lemmas.List.{append-nil, length-append}
 use Rattle.spec_image.specs.Image.{Image}
 use Rattle.spec_image.specs.Steps.{TrailStep, Note, applied, after}
-use Rattle.spec_image.specs.Told.{Told, Applies, Along, HasNoNote, Passes, PassesAny}
+use Rattle.spec_image.specs.Told.{Told, Applies, Along, HasNoNote, Passes}
 use Rattle.spec_image.specs.Notes.{AlongFrom, notes_in}
 use Rattle.spec_image.proofs.Cuts.{after-append}
-use Rattle.spec_image.proofs.Runs.{grows_then}
-use Rattle.spec_image.proofs.Quiet.{any_end, no-note}
+use Rattle.spec_image.proofs.Runs.{grows_none, grows_then, until_last}
+use Rattle.spec_image.proofs.Quiet.{no-note}
 use Rattle.spec_image.proofs.NotesLemmas.{along_from-last, along_from-append, along_from-one, at_each_prefix, notes_in-append, are_true-append}
 use Rattle.spec_format.specs.BlockFiles.{IsWellFormed}
 use Rattle.spec_format.specs.Headers.{IsUnfinished}
 use Rattle.spec_format.proofs.Finished.{finished_whole, magic-of}
+use Rattle.spec_format.specs.Session.{KeepsSessionWords}
+use Rattle.spec_format.proofs.Session.{quiet-words-kept}
 use Rattle.blk_model.specs.Items.{Row}
 use Rattle.blk_model.specs.State.{State, IsValidState}
 use Rattle.blk_model.specs.Holding.{rest}
@@ -21,14 +23,15 @@ use Rattle.blk_model.proofs.StopRests.{rest_before}
 use Rattle.spec_folder.specs.Found.{HoldsStill, found}
 use Rattle.spec_folder.specs.StandsFor.{StandsFor}
 use Rattle.law_folder.proofs.states.StoodFor.{stood-found}
-use Rattle.law_state.specs.Commands.{IsNoted, IsStepped, MayStop, MayStopFinished}
+use Rattle.law_state.specs.Commands.{IsNoted, MayStop, MayStopFinished}
 use Rattle.law_state.proofs.Stopping.{finished-along}
-use Rattle.spec_run.specs.Run.{Stamped, state_after, state_then, state_at, command_after}
-use Rattle.spec_run.specs.Moments.{IsStopped, IsLeftAt, Completes}
-use Rattle.spec_run.specs.Opening.{has_opened}
-use Rattle.spec_run.specs.Progress.{Progress, Stops, StopsAfter, StopsPast}
+use Rattle.spec_run.specs.Script.{is_refused}
+use Rattle.spec_run.specs.Run.{Stamped, outcome_in, state_after, state_then, state_at, command_after}
+use Rattle.spec_run.specs.Moments.{IsStopped, IsLeftAt, Completes, MayFollow}
+use Rattle.spec_run.specs.Opening.{IsInSessionOf, close_mark, has_closed, has_opened}
+use Rattle.spec_run.specs.Progress.{BreaksOffIn, IsWholeRun, MakesCommand, NotesCommand, Progress, Stops, StopsAfter, StopsPast}
 use Rattle.spec_run.specs.Laws.{RunsGoOn, RunsMayStopInACommand, RunsMayStopBetween, RunsEnd}
-use Rattle.spec_run.proofs.StepFacts.{true_false, along_head, quiet_first, quiet_later, quiet_true, opened_more, quiet_counts, not_complete, snoc_step}
+use Rattle.spec_run.proofs.StepFacts.{true_false, along_head, closed-last, head_same, nil_clash, quiet_first, quiet_later, quiet_true, opened_more, quiet_counts, not_complete, snoc_step, tail_same}
 use Rattle.spec_run.proofs.CommandStates.{state_after-one, state_here, next_here, state_next}
 
 -- What is found.
@@ -60,11 +63,43 @@ finished image well_formed = (finished_whole image well_formed).finished
 
 -- The folder after some steps.
 
+-- whatever step is the last of some: where it may follow those before it, it is one of those that a crash tells
+follows : (opened : State) (commands : List Stamped) (n : ℕ) (made : List TrailStep) (x : TrailStep) → notes_in made ≡ n
+    → MayFollow opened commands n (command_after commands n) x → (before : List TrailStep) (step : TrailStep) → made ++ x ∷ [] ≡ before ++ step ∷ []
+    → MayFollow opened commands (notes_in before) (command_after commands (notes_in before)) step
+follows opened commands n made x count may before step split =
+    let same = snoc_step made before x step split in
+    let here : notes_in before ≡ n = ap notes_in (sym same.0) ∙ count in
+    subst (λ (m : ℕ). MayFollow opened commands m (command_after commands m) step) (sym here)
+    (subst (MayFollow opened commands n (command_after commands n)) same.1 may)
+
+-- a command's own note may follow
+may_note : (opened : State) (commands done more : List Stamped) (c : Stamped) → commands ≡ done ++ c ∷ more
+    → MayFollow opened commands (length done) (command_after commands (length done)) (Note (length done + 1))
+may_note opened commands done more c e =
+    subst (λ (o : Option Stamped). MayFollow opened commands (length done) o (Note (length done + 1))) (sym (next_here commands done (c ∷ more) e))
+    (λ refusal. refl)
+
+-- any step may follow in a command that isn't refused, and none is made in one that is
+may_any : (opened : State) (commands done more : List Stamped) (c : Stamped) (t : List TrailStep) → commands ≡ done ++ c ∷ more
+    → (is_refused (outcome_in (state_after opened done) c) ≡ true → t ≡ []) → (t ≡ [] → ⊥) → (y : TrailStep)
+    → MayFollow opened commands (length done) (command_after commands (length done)) y
+may_any opened commands done more c t e spared some y =
+    let here = state_here opened commands done (c ∷ more) e in
+    subst (λ (o : Option Stamped). MayFollow opened commands (length done) o y) (sym (next_here commands done (c ∷ more) e))
+    (λ refusal. absurd (some (spared (ap (λ (s : State). is_refused (outcome_in s c)) (sym here) ∙ refusal))))
+
+-- it is still the same session where its words are as before
+in_session_kept : (from start image : Image) → IsInSessionOf from start → KeepsSessionWords start image → IsInSessionOf from image
+in_session_kept from start image inside kept = record { crash = kept.crash ∙ inside.crash; id = kept.id ∙ inside.id }
+
 -- between two commands the folder was opened, and these commands are done
 pub stopped_at_rest : (from : Image) (opened : State) (commands done more : List Stamped) (steps : List TrailStep) (image : Image) → commands ≡ done ++ more
-    → has_opened steps ≡ true → notes_in steps ≡ length done → StandsFor image (state_after opened done)
+    → has_opened steps ≡ true → notes_in steps ≡ length done → StandsFor image (state_after opened done) → IsInSessionOf from image
+    → ((before : List TrailStep) (step : TrailStep) → steps ≡ before ++ step ∷ [] → has_opened before ≡ true
+    → MayFollow opened commands (notes_in before) (command_after commands (notes_in before)) step)
     → IsStopped from opened commands steps image
-stopped_at_rest from opened commands done more steps image e marked count stands = record {
+stopped_at_rest from opened commands done more steps image e marked count stands inside may = record {
   usable = inr stands.well_formed;
   making = λ unfinished. absurd (finished image stands.well_formed unfinished);
   left = record {
@@ -75,6 +110,8 @@ stopped_at_rest from opened commands done more steps image e marked count stands
   };
   unnoted = λ none. true_false marked none;
   stands = λ before last split complete. subst (λ (s : State). StandsFor image s) (sym here) stands;
+  session = λ marked going. inside;
+  refused = may;
 }
   where
     same : found image ≡ rest (state_after opened done)
@@ -86,8 +123,9 @@ stopped_at_rest from opened commands done more steps image e marked count stands
 -- after a step that completes nothing
 pub stopped_within : (from : Image) (opened : State) (commands : List Stamped) (n : ℕ) (made : List TrailStep) (x : TrailStep) (image : Image)
     → has_opened made ≡ true → notes_in made ≡ n → HasNoNote (x ∷ []) → IsWellFormed image → IsLeftAt opened commands n (command_after commands n) (found image)
+    → (has_closed (made ++ x ∷ []) ≡ false → IsInSessionOf from image) → MayFollow opened commands n (command_after commands n) x
     → IsStopped from opened commands (made ++ x ∷ []) image
-stopped_within from opened commands n made x image marked count quiet well_formed left = record {
+stopped_within from opened commands n made x image marked count quiet well_formed left inside may = record {
   usable = inr well_formed;
   making = λ unfinished. absurd (finished image well_formed unfinished);
   left = record {
@@ -97,6 +135,8 @@ stopped_within from opened commands n made x image marked count quiet well_forme
   };
   unnoted = λ none. true_false (opened_more made (x ∷ []) marked) none;
   stands = λ before last split complete. absurd (never before last split complete);
+  session = λ opens. inside;
+  refused = λ before step split opens. follows opened commands n made x count may before step split;
 }
   where
     never : (before : List TrailStep) (last : TrailStep) → made ++ x ∷ [] ≡ before ++ last ∷ [] → Completes before last → ⊥
@@ -104,19 +144,24 @@ stopped_within from opened commands n made x image marked count quiet well_forme
         let same = snoc_step made before x last split in
         not_complete made x marked quiet (subst (λ (b : List TrailStep). Completes b x) (sym same.0) (subst (Completes before) (sym same.1) complete))
 
--- steps without a note once the opening has ended
+-- steps without a note once the opening has ended, which keep the words of the session, and may follow where there are any
 pub quiet_along : (from : Image) (opened : State) (commands : List Stamped) (n : ℕ) (R : Image → Type 0)
     → ((image : Image) → R image → IsWellFormed image × IsLeftAt opened commands n (command_after commands n) (found image))
+    → (start : Image) → IsInSessionOf from start
     → (made : List TrailStep) (image : Image) (steps : List TrailStep) → has_opened made ≡ true → notes_in made ≡ n → HasNoNote steps
+    → ((steps ≡ [] → ⊥) → (y : TrailStep) → MayFollow opened commands n (command_after commands n) y) → Along (KeepsSessionWords start) image steps
     → IsStopped from opened commands made image → Along R image steps → AlongFrom (IsStopped from opened commands) made image steps
-quiet_along from opened commands n R gives made image [] marked count quiet here all = here
-quiet_along from opened commands n R gives made image (x ∷ steps) marked count quiet here all =
+quiet_along from opened commands n R gives start inside made image [] marked count quiet may same here all = here
+quiet_along from opened commands n R gives start inside made image (x ∷ steps) marked count quiet may same here all =
+    let some : x ∷ steps ≡ [] → ⊥ = λ e. nil_clash (sym e) in
+    let kept = along_head (KeepsSessionWords start) (applied x image) steps same.1 in
     let next = gives (applied x image) (along_head R (applied x image) steps all.1) in
     let one = quiet_first x steps quiet in (
       here,
-      quiet_along from opened commands n R gives (made ++ x ∷ []) (applied x image) steps
-          (opened_more made (x ∷ []) marked) (quiet_counts made (x ∷ []) n count one) (quiet_later x steps quiet)
-          (stopped_within from opened commands n made x (applied x image) marked count one next.0 next.1) all.1,
+      quiet_along from opened commands n R gives start inside (made ++ x ∷ []) (applied x image) steps
+          (opened_more made (x ∷ []) marked) (quiet_counts made (x ∷ []) n count one) (quiet_later x steps quiet) (λ more. may some) same.1
+          (stopped_within from opened commands n made x (applied x image) marked count one next.0 next.1
+          (λ going. in_session_kept from start (applied x image) inside kept) (may some x)) all.1,
     )
 
 -- Calls.
@@ -129,9 +174,48 @@ stopped_in_left : (opened : State) (commands done more : List Stamped) (c : Stam
     → IsWellFormed image × IsLeftAt opened commands (length done) (command_after commands (length done)) (found image)
 stopped_in_left opened commands done more c e image stopped = (stopped.well_formed, left_in opened commands done more c (found image) e stopped.left)
 
+-- a command that was noted, without a step but its note where it is refused
+noted_alone : (mid new : Told) (c : Stamped) (number : ℕ) (state : State) → NotesCommand mid new c number state
+    → (noted : IsNoted mid new c.moment c.request number state) × (is_refused (outcome_in state c) ≡ true → noted.steps ≡ [])
+noted_alone mid new c number state made = by_test (is_refused (outcome_in state c)) refl
+  where
+    alone : is_refused (outcome_in state c) ≡ true → IsNoted mid new c.moment c.request number state
+    alone is = record {
+      steps = [];
+      quiet = tt;
+      applies = made.alone is;
+      stops = λ image here. along_head (MayStop state c.moment c.request) image made.noted.steps (made.noted.stops image here);
+      stands = made.noted.stands;
+    }
+
+    by_test : (b : Bool) → is_refused (outcome_in state c) ≡ b
+        → (noted : IsNoted mid new c.moment c.request number state) × (is_refused (outcome_in state c) ≡ true → noted.steps ≡ [])
+    by_test true is = (alone is, λ again. refl)
+    by_test false is = (made.noted, λ again. true_false again is)
+
+-- one that was made in part, without a step where it is refused
+part_alone : (mid new : Told) (c : Stamped) (state : State) → BreaksOffIn mid new c state
+    → (passes : Passes mid new (MayStop state c.moment c.request)) × (is_refused (outcome_in state c) ≡ true → passes.steps ≡ [])
+part_alone mid new c state made = by_test (is_refused (outcome_in state c)) refl
+  where
+    none : is_refused (outcome_in state c) ≡ true → Passes mid new (MayStop state c.moment c.request)
+    none is = record {
+      steps = [];
+      applies = grows_none (made.untouched is);
+      quiet = tt;
+      along = λ image here. along_head (MayStop state c.moment c.request) image made.passes.steps (made.passes.along image here);
+    }
+
+    by_test : (b : Bool) → is_refused (outcome_in state c) ≡ b
+        → (passes : Passes mid new (MayStop state c.moment c.request)) × (is_refused (outcome_in state c) ≡ true → passes.steps ≡ [])
+    by_test true is = (none is, λ again. refl)
+    by_test false is = (made.passes, λ again. true_false again is)
+
 -- a command that was done
 pub one_more : RunsGoOn
-one_more from opened done old mid new c there before made =
+one_more from opened done old mid new c there before makes =
+    let lone = noted_alone mid new c (length done + 1) (state_after opened done) makes in
+    let made = lone.0 in
     let s = before.steps in
     let t = made.steps in
     let note : TrailStep = Note (length done + 1) in
@@ -144,6 +228,10 @@ one_more from opened done old mid new c there before made =
     let marked = opened_more s t before.opens in
     let none = no-note t made.quiet in
     let count = quiet_counts s t (length done) before.noted none in
+    let inside = before.session middle at_middle in
+    let words = quiet-words-kept t middle made.quiet in
+    let inside_then : IsInSessionOf from (after t middle) =
+    in_session_kept from middle (after t middle) inside (until_last (KeepsSessionWords middle) (KeepsSessionWords middle) t middle words) in
     let grown : length (done ++ c ∷ []) ≡ length done + 1 = length-append done (c ∷ []) in
     let noted : notes_in (s ++ t ++ note ∷ []) ≡ length (done ++ c ∷ []) = notes_in-append (s ++ t) (note ∷ []) ∙ ap (λ (n : ℕ). n + 1) count ∙ sym grown in
     let joined : s ++ (t ++ note ∷ []) ≡ s ++ t ++ note ∷ [] = sym (append_assoc s t (note ∷ [])) in
@@ -156,44 +244,51 @@ one_more from opened done old mid new c there before made =
           (are_true-append 0 s t before.notes (quiet_true (0 + notes_in s) t none))
           (let zero_in : 0 + notes_in (s ++ t) ≡ length done = omega (arith, count) in (ap (λ (n : ℕ). n + 1) (sym zero_in), tt));
       stands = λ image is. subst (λ (i : Image). StandsFor i (state_after opened (done ++ c ∷ []))) (some_same (sym at_end ∙ is)) rests;
+      session = λ image is. subst (IsInSessionOf from) (some_same (sym at_end ∙ is)) inside_then;
       along = λ commands more e.
           let more_after : commands ≡ done ++ c ∷ more = e ∙ append_assoc done (c ∷ []) more in
           let first = before.along commands (c ∷ more) more_after in
           let P : List TrailStep → Image → Type 0 = IsStopped from opened commands in
           let second = quiet_along from opened commands (length done) (MayStopFinished (state_after opened done) c.moment c.request) (stopped_in_left opened commands done more c more_after)
-          s middle t before.opens before.noted none (along_from-last P [] from s first)
+          middle inside s middle t before.opens before.noted none (may_any opened commands done more c t more_after lone.1) words
+          (along_from-last P [] from s first)
           (finished-along (state_after opened done) c.moment c.request middle t made.quiet (magic-of middle (before.stands middle at_middle).well_formed) (made.stops middle at_middle)) in
           let both = along_from-append P [] from s t first second in
           let final_image : after (s ++ t) from ≡ after t middle = after-append s t from in
           along_from-one P [] from (s ++ t) note both
           (subst (P (s ++ t ++ note ∷ [])) (sym final_image)
           (stopped_at_rest from opened commands (done ++ c ∷ []) more (s ++ t ++ note ∷ []) (after t middle) e
-          (opened_more (s ++ t) (note ∷ []) marked) noted rests));
+          (opened_more (s ++ t) (note ∷ []) marked) noted rests inside_then
+          (λ before_last step split opens.
+          follows opened commands (length done) (s ++ t) note count (may_note opened commands done more c more_after) before_last step split)));
     }
   where
     some_same : {x y : Image} → Some x ≡ Some y → x ≡ y
     some_same e = cc
 
--- a run that was ended in the midst of a call, or after its last
+-- a run that was ended in the midst of a command
 pub stops_with : {from : Image} {opened : State} {commands done : List Stamped} {old mid new : Told} (more : List Stamped) (R : Image → Type 0) → old.files ≡ Some from
-    → Progress from opened done old mid → PassesAny mid new R → commands ≡ done ++ more
+    → Progress from opened done old mid → (made : Passes mid new R) → commands ≡ done ++ more
     → ((image : Image) → R image → IsWellFormed image × IsLeftAt opened commands (length done) (command_after commands (length done)) (found image))
+    → ((made.steps ≡ [] → ⊥) → (y : TrailStep) → MayFollow opened commands (length done) (command_after commands (length done)) y)
     → Stops from opened commands old new
-stops_with {from} {opened} {commands} {done} {old} {mid} {new} more R there before made e gives =
+stops_with {from} {opened} {commands} {done} {old} {mid} {new} more R there before made e gives may =
     let s = before.steps in
     let t = made.steps in
     let middle : Image = after s from in
     let at_middle = some_after from there before.applies in
     let P : List TrailStep → Image → Type 0 = IsStopped from opened commands in
     let first = before.along commands more e in
-    let second = quiet_along from opened commands (length done) R gives s middle t before.opens before.noted made.unnoted (along_from-last P [] from s first) (made.along middle at_middle) in
-    let count = quiet_counts s t (length done) before.noted made.unnoted in
+    let none = no-note t made.quiet in
+    let second = quiet_along from opened commands (length done) R gives middle (before.session middle at_middle) s middle t before.opens before.noted none may
+    (quiet-words-kept t middle made.quiet) (along_from-last P [] from s first) (made.along middle at_middle) in
+    let count = quiet_counts s t (length done) before.noted none in
     let all = ap (λ (l : List Stamped). length l) e ∙ length-append done more in
     record {
       steps = s ++ t;
       applies = grows_then before.applies made.applies;
       stops = at_each_prefix P from (s ++ t) (along_from-append P [] from s t first second);
-      notes = are_true-append 0 s t before.notes (quiet_true (0 + notes_in s) t made.unnoted);
+      notes = are_true-append 0 s t before.notes (quiet_true (0 + notes_in s) t none);
       few = omega (arith, count, all);
     }
 
@@ -212,43 +307,45 @@ stays from opened done more old new before =
 
 -- a command that was done in part, at each of whose words the index is initialized
 finished_part : (from : Image) (opened : State) (done : List Stamped) (old mid new : Told) (c : Stamped) → old.files ≡ Some from → Progress from opened done old mid
-    → Passes mid new (MayStop (state_after opened done) c.moment c.request) → PassesAny mid new (MayStopFinished (state_after opened done) c.moment c.request)
+    → Passes mid new (MayStop (state_after opened done) c.moment c.request) → Passes mid new (MayStopFinished (state_after opened done) c.moment c.request)
 finished_part from opened done old mid new c there before made = record {
   steps = made.steps;
   applies = made.applies;
-  unnoted = no-note made.steps made.quiet;
+  quiet = made.quiet;
   along = λ image is. finished-along (state_after opened done) c.moment c.request image made.steps made.quiet (magic-of image (before.stands image is).well_formed) (made.along image is);
 }
 
--- a command that was done in part, or noted
-pub stopped : RunsMayStopInACommand
-stopped from opened done more old mid new c there before (inl made) =
-    stops_with (c ∷ more) (MayStopFinished (state_after opened done) c.moment c.request) there before (finished_part from opened done old mid new c there before made) refl (stopped_in_left opened (done ++ c ∷ more) done more c refl)
-stopped from opened done more old mid new c there before (inr made) =
-    subst (λ (l : List Stamped). Stops from opened l old new) (append_assoc done (c ∷ []) more)
-    (stays from opened (done ++ c ∷ []) more old new (one_more from opened done old mid new c there before made))
-
--- the same with the notes counted: a command that was done in part isn't noted
+-- it isn't noted
 pub stopped_part : (from : Image) (opened : State) (done more : List Stamped) (old mid new : Told) (c : Stamped) → old.files ≡ Some from → Progress from opened done old mid
-    → Passes mid new (MayStop (state_after opened done) c.moment c.request) → StopsAfter from opened (done ++ c ∷ more) (length done) old new
+    → BreaksOffIn mid new c (state_after opened done) → StopsAfter from opened (done ++ c ∷ more) (length done) old new
 unfolding stops_with finished_part
-stopped_part from opened done more old mid new c there before made = record {
-  stops = stops_with (c ∷ more) (MayStopFinished (state_after opened done) c.moment c.request) there before (finished_part from opened done old mid new c there before made) refl (stopped_in_left opened (done ++ c ∷ more) done more c refl);
-  count = quiet_counts before.steps made.steps (length done) before.noted (no-note made.steps made.quiet);
-}
+stopped_part from opened done more old mid new c there before makes =
+    let lone = part_alone mid new c (state_after opened done) makes in
+    let made = lone.0 in
+    record {
+      stops = stops_with (c ∷ more) (MayStopFinished (state_after opened done) c.moment c.request) there before
+          (finished_part from opened done old mid new c there before made) refl
+          (stopped_in_left opened (done ++ c ∷ more) done more c refl) (may_any opened (done ++ c ∷ more) done more c made.steps refl lone.1);
+      count = quiet_counts before.steps made.steps (length done) before.noted (no-note made.steps made.quiet);
+    }
 
 -- and one that was noted is
 pub stopped_noted : (from : Image) (opened : State) (done more : List Stamped) (old mid new : Told) (c : Stamped) → old.files ≡ Some from → Progress from opened done old mid
-    → IsNoted mid new c.moment c.request (length done + 1) (state_after opened done) → StopsAfter from opened (done ++ c ∷ more) (length done + 1) old new
+    → NotesCommand mid new c (length done + 1) (state_after opened done) → StopsAfter from opened (done ++ c ∷ more) (length done + 1) old new
 unfolding stays
 stopped_noted from opened done more old mid new c there before made =
     let next = one_more from opened done old mid new c there before made in
     subst (λ (l : List Stamped). StopsAfter from opened l (length done + 1) old new) (append_assoc done (c ∷ []) more)
     (record { stops = stays from opened (done ++ c ∷ []) more old new next; count = next.noted ∙ length-append done (c ∷ []) })
 
+-- a command that was done in part, or noted
+pub stopped : RunsMayStopInACommand
+stopped from opened done more old mid new c there before (inl made) = (stopped_part from opened done more old mid new c there before made).stops
+stopped from opened done more old mid new c there before (inr made) = (stopped_noted from opened done more old mid new c there before made).stops
+
 -- at least those before it are noted
 pub stopped_past : (from : Image) (opened : State) (done more : List Stamped) (old mid new : Told) (c : Stamped) → old.files ≡ Some from → Progress from opened done old mid
-    → IsStepped mid new c.moment c.request (length done + 1) (state_after opened done) → StopsPast from opened (done ++ c ∷ more) (length done) old new
+    → MakesCommand mid new c (length done + 1) (state_after opened done) → StopsPast from opened (done ++ c ∷ more) (length done) old new
 stopped_past from opened done more old mid new c there before (inl made) =
     let stops = stopped_part from opened done more old mid new c there before made in
     record { stops = stops.stops; count = let n = stops.count in omega (arith, n) }
@@ -256,22 +353,67 @@ stopped_past from opened done more old mid new c there before (inr made) =
     let stops = stopped_noted from opened done more old mid new c there before made in
     record { stops = stops.stops; count = let n = stops.count in omega (arith, n) }
 
--- the end of a run, of whose commands none is left
+-- the end of a run, of whose commands none is left: the step that ends the session is made, or none
 pub ended : RunsEnd
-unfolding stops_with
-ended from opened commands old mid new there before still =
-    let image : Image = after before.steps from in
-    let at_middle = some_after from there before.applies in
-    let passed = still image at_middle in
-    let stands = before.stands image at_middle in
-    let all : commands ≡ commands ++ [] = sym (append-nil commands) in
-    let same : found image ≡ rest (state_after opened commands) = stood-found image (state_after opened commands) stands in
-    let gives : (other : Image) → HoldsStill image other → IsWellFormed other × IsLeftAt opened commands (length commands) (command_after commands (length commands)) (found other) =
-    λ other held. (held.formed stands.well_formed, left_between opened commands commands [] (found other) all stands.shows.valid (held.found_same ∙ same)) in
-    let stop = stops_with [] (HoldsStill image) there before passed all gives in
-    record {
-      stops = stop;
-      opens = opened_more before.steps passed.steps before.opens;
-      noted = quiet_counts before.steps passed.steps (length commands) before.noted passed.unnoted;
-      holds = λ other is. (any_end passed other is).found_same ∙ same;
-    }
+ended from opened commands old mid new there before part still = by_steps part.made part.left part.split part.applies
+  where
+    middle : Image
+    middle = after before.steps from
+
+    at_middle : mid.files ≡ Some middle
+    at_middle = some_after from there before.applies
+
+    P : List TrailStep → Image → Type 0
+    P = IsStopped from opened commands
+
+    all : commands ≡ commands ++ []
+    all = sym (append-nil commands)
+
+    first : AlongFrom P [] from before.steps
+    first = before.along commands [] all
+
+    here : P before.steps middle
+    here = along_from-last P [] from before.steps first
+
+    same : found middle ≡ rest (state_after opened commands)
+    same = stood-found middle (state_after opened commands) (before.stands middle at_middle)
+
+    -- with these steps
+    with_steps : (t : List TrailStep) → Applies mid new t → HasNoNote t → AlongFrom P before.steps middle t → IsWholeRun from opened commands old new
+    with_steps t applies none second =
+        let count = quiet_counts before.steps t (length commands) before.noted none in
+        record {
+          stops = record {
+            steps = before.steps ++ t;
+            applies = grows_then before.applies applies;
+            stops = at_each_prefix P from (before.steps ++ t) (along_from-append P [] from before.steps t first second);
+            notes = are_true-append 0 before.steps t before.notes (quiet_true (0 + notes_in before.steps) t none);
+            few = omega (arith, count);
+          };
+          opens = opened_more before.steps t before.opens;
+          noted = count;
+          holds = λ image is. (still middle at_middle image is).found_same ∙ same;
+        }
+
+    -- after the step that ends the session
+    closed : Applies mid new (close_mark ∷ []) → P (before.steps ++ close_mark ∷ []) (applied close_mark middle)
+    closed applies =
+        let held : HoldsStill middle (applied close_mark middle) = still middle at_middle (applied close_mark middle) (some_after middle at_middle applies) in
+        let stands = before.stands middle at_middle in
+        stopped_within from opened commands (length commands) before.steps close_mark (applied close_mark middle) before.opens before.noted tt
+        (held.formed stands.well_formed)
+        (left_between opened commands commands [] (found (applied close_mark middle)) all stands.shows.valid (held.found_same ∙ same))
+        (λ going. true_false (closed-last before.steps close_mark) going)
+        (subst (λ (o : Option Stamped). MayFollow opened commands (length commands) o close_mark) (sym (next_here commands commands [] all)) refl)
+
+    none_left : (t left : List TrailStep) → [] ≡ t ++ left → t ≡ []
+    none_left [] left e = refl
+    none_left (x ∷ t) left e = nil_clash e
+
+    by_steps : (made left : List TrailStep) → close_mark ∷ [] ≡ made ++ left → Applies mid new made → IsWholeRun from opened commands old new
+    by_steps [] left split applies = with_steps [] applies tt here
+    by_steps (x ∷ t) left split applies =
+        let is : x ∷ t ≡ close_mark ∷ [] =
+        ap (λ (y : TrailStep). y ∷ t) (sym (head_same split)) ∙ ap (λ (l : List TrailStep). close_mark ∷ l) (none_left t left (tail_same split)) in
+        let applied_mark : Applies mid new (close_mark ∷ []) = subst (Applies mid new) is applies in
+        with_steps (close_mark ∷ []) applied_mark tt (here, closed applied_mark)

@@ -1,19 +1,22 @@
 -- A run begins with an opening, or crashes in it.
-use Rattle.std.proofs.Common.{ℕ, ◌+◌, ◌≡◌, inl, inr, true, false, ◌||◌, List, [], ◌∷◌, ◌++◌, Some, refl, sym, ◌∙◌, ap, subst, arith, append_assoc}
-use Rattle.spec_image.specs.Image.{Image}
+use Rattle.std.proofs.Common.{ℕ, ◌+◌, ◌≤◌, ◌≡◌, inl, inr, true, false, ◌||◌, List, [], ◌∷◌, ◌++◌, Some, refl, sym, ◌∙◌, ap, subst, arith, lit<, lit≤, append_assoc}
+use Rattle.spec_image.specs.Bytes.{word_bytes}
+use Rattle.spec_image.specs.Image.{Image, Index, length_of, word}
 use Rattle.spec_image.specs.Steps.{TrailStep, applied, after}
 use Rattle.spec_image.specs.Told.{Along, HasNoNote}
 use Rattle.spec_image.specs.Notes.{AlongFrom, notes_in}
 use Rattle.spec_image.proofs.Cuts.{after-append}
+use Rattle.spec_image.proofs.Images.{length-after_write, word-after_same}
 use Rattle.spec_image.proofs.NotesLemmas.{along_from-one, at_each_prefix, notes_in-append, are_true-append}
 use Rattle.spec_format.specs.BlockFiles.{IsUsable}
-use Rattle.spec_format.specs.Headers.{IsUnfinished}
+use Rattle.spec_format.specs.Headers.{IsUnfinished, index_length}
+use Rattle.spec_format.proofs.Finished.{whole_index}
 use Rattle.blk_model.specs.State.{State}
 use Rattle.spec_folder.specs.Found.{HoldsStill}
 use Rattle.spec_folder.specs.StandsFor.{StandsFor}
 use Rattle.spec_run.specs.Run.{Stamped, state_after}
 use Rattle.spec_run.specs.Moments.{IsStopped, Completes}
-use Rattle.spec_run.specs.Opening.{has_opened, open_mark}
+use Rattle.spec_run.specs.Opening.{IsInSessionOf, has_opened, open_mark}
 use Rattle.spec_run.specs.Laws.{RunsBegin, RunsMayStopInTheOpening}
 use Rattle.spec_run.proofs.StepFacts.{true_false, along_head, quiet_first, quiet_later, quiet_notes, quiet_true, opened-append, none_before, not_marked, no_last, snoc_step}
 use Rattle.spec_run.proofs.Composing.{finished, stays, stopped_at_rest, some_after}
@@ -36,6 +39,8 @@ stopped_before from opened commands steps image usable none unnoted incomplete s
   };
   unnoted = λ same. unnoted;
   stands = λ before last split complete. absurd (incomplete before last split complete);
+  session = λ marked. true_false marked none;
+  refused = λ before last split marked. true_false marked (none_before before (last ∷ []) (ap has_opened (sym split) ∙ none));
 }
 
 -- before the first step
@@ -70,6 +75,12 @@ along_before P (x ∷ s) t image all = (all.0, along_before P s t (applied x ima
 some_same : {x y : Image} → Some x ≡ Some y → x ≡ y
 some_same e = cc
 
+-- the step that marks a session as open makes the crash word 1, in an index of its length
+marked_word : (image : Image) → length_of (applied open_mark image) Index ≡ index_length → word (applied open_mark image) Index 32 ≡ 1
+marked_word image whole =
+    let same = length-after_write image Index Index 32 (word_bytes 1) in
+    word-after_same image Index 32 1 (lit< tt) (subst (λ (n : ℕ). 36 ≤ n) (sym whole ∙ same) (lit≤ tt))
+
 -- a run begins with an opening
 pub begun : RunsBegin
 unfolding state_after
@@ -81,6 +92,10 @@ begun from opened old new there usable opens =
     let stands = opens.stands image at_end in
     let marked : has_opened all ≡ true = opened-append s (open_mark ∷ []) ∙ ap (λ b. b || true) opens.unmarked in
     let count : notes_in all ≡ 0 = notes_in-append s (open_mark ∷ []) ∙ ap (λ (n : ℕ). n + 0) (quiet_notes s opens.unnoted) in
+    let last : image ≡ applied open_mark (after s from) = after-append s (open_mark ∷ []) from in
+    let crash : word image Index 32 ≡ 1 = subst (λ (i : Image). word i Index 32 ≡ 1) (sym last)
+    (marked_word (after s from) (ap (λ (i : Image). length_of i Index) (sym last) ∙ whole_index image stands.well_formed)) in
+    let inside : IsInSessionOf from image = record { crash = crash; id = opens.id image at_end } in
     record {
       steps = all;
       applies = opens.applies;
@@ -88,6 +103,7 @@ begun from opened old new there usable opens =
       noted = count;
       notes = are_true-append 0 s (open_mark ∷ []) (quiet_true 0 s opens.unnoted) tt;
       stands = λ other is. subst (λ (i : Image). StandsFor i opened) (some_same (sym at_end ∙ is)) stands;
+      session = λ other is. subst (IsInSessionOf from) (some_same (sym at_end ∙ is)) inside;
       along = λ commands more e.
           let P : List TrailStep → Image → Type 0 = IsStopped from opened commands in
           let first : AlongFrom P [] from s = opening_along from opened commands [] from s usable opens.unmarked refl opens.unnoted
@@ -95,7 +111,8 @@ begun from opened old new there usable opens =
           (along_before (HoldsStill from) s (open_mark ∷ []) from opens.along) in
           along_from-one P [] from s open_mark first
           (subst (P all) (after-append s (open_mark ∷ []) from)
-          (stopped_at_rest from opened commands [] more all image e marked count stands));
+          (stopped_at_rest from opened commands [] more all image e marked count stands inside
+          (λ before step split opened_before. true_false opened_before (ap has_opened (sym (snoc_step s before open_mark step split).0) ∙ opens.unmarked))));
     }
 
 -- an opening that failed

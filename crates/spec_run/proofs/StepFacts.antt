@@ -6,7 +6,7 @@ use Rattle.spec_image.specs.Steps.{TrailStep, Word, SetLength, Delete, Note}
 use Rattle.spec_image.specs.Told.{Along, HasNoNote}
 use Rattle.spec_image.specs.Notes.{AreTrue, notes_in}
 use Rattle.spec_image.proofs.NotesLemmas.{notes_in-append}
-use Rattle.spec_run.specs.Opening.{has_opened, marks_open}
+use Rattle.spec_run.specs.Opening.{has_closed, has_opened, marks_closed, marks_open}
 use Rattle.spec_run.specs.Moments.{Completes}
 
 pub true_false : {P : Type 0} {b : Bool} → b ≡ true → b ≡ false → P
@@ -61,6 +61,12 @@ none_before s t none = first (has_opened s) (has_opened t) (sym (opened-append s
 pub quiet_counts : (made s : List TrailStep) (n : ℕ) → notes_in made ≡ n → HasNoNote s → notes_in (made ++ s) ≡ n
 quiet_counts made s n count quiet = let none = quiet_notes s quiet in let all = notes_in-append made s in omega (arith, none, all, count)
 
+-- the last step says whether the session has ended
+pub closed-last : (made : List TrailStep) (x : TrailStep) → has_closed (made ++ x ∷ []) ≡ marks_closed x
+closed-last [] x = refl
+closed-last (y ∷ []) x = refl
+closed-last (y ∷ z ∷ made) x = closed-last (z ∷ made) x
+
 -- a step that is no note completes nothing once the opening has ended
 pub not_complete : (made : List TrailStep) (x : TrailStep) → has_opened made ≡ true → HasNoNote (x ∷ []) → Completes made x → ⊥
 not_complete made (Word f at bs) marked quiet complete = true_false marked complete.0
@@ -80,13 +86,13 @@ not_marked made (SetLength f n) none quiet complete = complete
 not_marked made (Delete f) none quiet complete = complete
 not_marked made (Note n) none quiet complete = quiet
 
-head_same : {A : Type 0} {x y : A} {xs ys : List A} → x ∷ xs ≡ y ∷ ys → x ≡ y
+pub head_same : {A : Type 0} {x y : A} {xs ys : List A} → x ∷ xs ≡ y ∷ ys → x ≡ y
 head_same e = cc
 
-tail_same : {A : Type 0} {x y : A} {xs ys : List A} → x ∷ xs ≡ y ∷ ys → xs ≡ ys
+pub tail_same : {A : Type 0} {x y : A} {xs ys : List A} → x ∷ xs ≡ y ∷ ys → xs ≡ ys
 tail_same e = cc
 
-nil_clash : {A : Type 0} {P : Type 0} {x : A} {xs : List A} → [] ≡ x ∷ xs → P
+pub nil_clash : {A : Type 0} {P : Type 0} {x : A} {xs : List A} → [] ≡ x ∷ xs → P
 nil_clash {x = x} {xs = xs} e = absurd (clash e)
   where
     clash : [] ≡ x ∷ xs → ⊥

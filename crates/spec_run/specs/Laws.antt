@@ -5,7 +5,7 @@ use Rattle.std.specs.Option.{ForSome}
 use Rattle.spec_image.specs.Image.{Image}
 use Rattle.spec_image.specs.Steps.{TrailStep, after}
 use Rattle.spec_image.specs.Notes.{AtEachPrefix, notes_in}
-use Rattle.spec_image.specs.Told.{Told, PassesAny}
+use Rattle.spec_image.specs.Told.{Told, AppliesPrefix}
 use Rattle.blk_model.specs.Sizes.{handle_names}
 use Rattle.blk_model.specs.Items.{Item, main, part, Row, item_of}
 use Rattle.blk_model.specs.State.{State, Bounds, IsValidState, is_named, named_by, object_at}
@@ -18,14 +18,14 @@ use Rattle.blk_model.specs.Step.{Outcome}
 use Rattle.blk_model.specs.Stops.{is_live_and_settled, is_safe}
 use Rattle.spec_format.specs.BlockFiles.{IsUsable}
 use Rattle.blk_io.specs.Streams.{Readings, later_of}
-use Rattle.law_state.specs.Commands.{IsNoted, IsStepped, note_number}
+use Rattle.law_state.specs.Commands.{note_number}
 use Rattle.spec_folder.specs.Found.{HoldsStill, found}
 use Rattle.spec_run.specs.Lines.{Cut, with_bytes, lines, whole_lines}
 use Rattle.spec_run.specs.Script.{Script, Shown, TurnsNoneAway, ended, errs, says, turns_away, asks, count_script, put_script, session_script, until_refused}
 use Rattle.spec_run.specs.Run.{Stamped, Turn, error_turn, text_turn, away_turn, command_turn, stamped_by, outcome_in, state_then, state_after, clock_after, turns, commands_of, readings_of, text_of, bound_names, closings, run_of, cut_after, commands, command_after, state_at}
 use Rattle.spec_run.specs.Moments.{IsLeftAt, IsStopped}
-use Rattle.spec_run.specs.Opening.{Opens, FailsToOpen, has_opened}
-use Rattle.spec_run.specs.Progress.{Progress, Stops, IsWholeRun, AreNoted}
+use Rattle.spec_run.specs.Opening.{Opens, FailsToOpen, close_mark, has_opened}
+use Rattle.spec_run.specs.Progress.{AreNoted, IsWholeRun, MakesCommand, NotesCommand, Progress, Stops}
 use Rattle.spec_run.specs.Playing.{IsPlayed}
 use Rattle.spec_run.specs.Replies.{PrintsNoMore, evictions_of}
 
@@ -44,7 +44,7 @@ RunsMayStopInTheOpening = (from : Image) (opened : State) (commands : List Stamp
 -- a run goes on with a command that is done and noted
 abbrev pub RunsGoOn : Type 0
 RunsGoOn = (from : Image) (opened : State) (done : List Stamped) (old mid new : Told) (command : Stamped) → old.files ≡ Some from → Progress from opened done old mid
-    → IsNoted mid new command.moment command.request (length done + 1) (state_after opened done) → Progress from opened (done ++ command ∷ []) old new
+    → NotesCommand mid new command (length done + 1) (state_after opened done) → Progress from opened (done ++ command ∷ []) old new
 
 -- a run goes on with several commands that are done and noted in turn
 abbrev pub RunsGoOnInTurn : Type 0
@@ -54,7 +54,7 @@ RunsGoOnInTurn = (from : Image) (opened : State) (done more : List Stamped) (old
 -- a command that is made in part, or done and noted, leaves the folder as a crash of the run may
 abbrev pub RunsMayStopInACommand : Type 0
 RunsMayStopInACommand = (from : Image) (opened : State) (done more : List Stamped) (old mid new : Told) (command : Stamped) → old.files ≡ Some from → Progress from opened done old mid
-    → IsStepped mid new command.moment command.request (length done + 1) (state_after opened done) → Stops from opened (done ++ command ∷ more) old new
+    → MakesCommand mid new command (length done + 1) (state_after opened done) → Stops from opened (done ++ command ∷ more) old new
 
 -- a run may crash between two commands: after those that are done, whatever commands would follow
 abbrev pub RunsMayStopBetween : Type 0
@@ -71,10 +71,10 @@ NoteNumbersAreExact = (count : ℕ) → count < 2 ^ 64 → note_number count ≡
 
 -- The end.
 
--- a run is whole where all its commands are done and the steps after them leave the recovered contents as they are
+-- a run is whole where all its commands are done, and then the step that ends the session was made or none; the recovered contents stay as they are
 abbrev pub RunsEnd : Type 0
 RunsEnd = (from : Image) (opened : State) (commands : List Stamped) (old mid new : Told) → old.files ≡ Some from → Progress from opened commands old mid
-    → ForSome mid.files (λ image. PassesAny mid new (HoldsStill image)) → IsWholeRun from opened commands old new
+    → AppliesPrefix mid new (close_mark ∷ []) → ForSome mid.files (λ image. ForSome new.files (HoldsStill image)) → IsWholeRun from opened commands old new
 
 -- Iterations.
 

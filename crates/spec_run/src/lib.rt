@@ -22,7 +22,7 @@ pub fn runs_go_on()
     ensures numbers { NoteNumbersAreExact }
 {}
 
-/// A run is whole where all its commands are done, and the steps after them leave the recovered contents as they are.
+/// A run is whole where all its commands are done, and the step that ends the session, made or not, leaves the recovered contents as they are.
 pub fn runs_end()
     ensures { RunsEnd }
 {}

@@ -20,16 +20,16 @@ returns-in_err-mark-clause-untold g c all =
     (c.in_err-mark.ensures.untold (λ i here. let open_now = c.repair.ensures.is_open i here in open_now.whole_index))
 
 pub returns-in_err-repair-clause-stops : goal.returns-in_err-repair-clause-stops
-returns-in_err-repair-clause-stops g c from there can = repaired-either from (c.repair.ensures.stops from there can)
+returns-in_err-repair-clause-stops g c from there can = repaired-either from can.well_formed (c.repair.ensures.stops from there can)
 
 pub returns-in_err-mark-clause-stops : goal.returns-in_err-mark-clause-stops
-returns-in_err-mark-clause-stops g c from there can = inr (ends-stay (repaired-opens from (c.in_ok-repair.ensures.last from there can)) c.in_err-mark.ensures.reads.stays)
+returns-in_err-mark-clause-stops g c from there can = inr (ends-stay (repaired-opens from can.well_formed (c.in_ok-repair.ensures.last from there can)) c.in_err-mark.ensures.reads.stays)
 
 pub returns-clause-stops : goal.returns-clause-stops
-returns-clause-stops g c from there can = inr (ends-stay (repaired-opens from (c.in_ok-repair.ensures.last from there can)) c.in_ok-mark.ensures.reads.stays)
+returns-clause-stops g c from there can = inr (ends-stay (repaired-opens from can.well_formed (c.in_ok-repair.ensures.last from there can)) c.in_ok-mark.ensures.reads.stays)
 
 pub returns-clause-last : goal.returns-clause-last
-returns-clause-last g c from there can = ends-stay (repaired-opens from (c.in_ok-repair.ensures.last from there can)) c.in_ok-mark.ensures.reads.stays
+returns-clause-last g c from there can = ends-stay (repaired-opens from can.well_formed (c.in_ok-repair.ensures.last from there can)) c.in_ok-mark.ensures.reads.stays
 
 pub returns-clause-opened : goal.returns-clause-opened
 returns-clause-opened g c from there can image here =

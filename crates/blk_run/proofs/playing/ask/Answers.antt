@@ -23,7 +23,7 @@ returns-clause-asked g c =
       answered = by_answer far left at c.step-answered.result c.step-answered.ensures.answered;
       plays = of_step far c.now.result (request_of c.args.command.now) (KeepsState c.args.cache.now) (KeepsState c.step-answered.new.self) (c.args.cache.now.notes) (c.step-answered.new.self.notes) left
           (g.F.Folder.told c.args.folder.now) (g.F.Folder.told c.step-answered.new.f) (g.K.Sink.written c.args.out.now) (g.K.Sink.written c.step-answered.new.out) (Some early) (Some late) at
-          c.step-answered.ensures.stepped c.step-answered.ensures.front later c.step-answered.result c.step-answered.ensures.answered c.step-answered.ensures.kept c.step-answered.ensures.noted c.step-answered.ensures.counts c.step-answered.ensures.printed c.step-answered.ensures.unanswered (λ any. c.step-answered.ensures.untold (λ image there. let one = any image there in (one.0, one.1.holds)));
+          c.step-answered.ensures.stepped c.step-answered.ensures.front later c.step-answered.result c.step-answered.ensures.answered c.step-answered.ensures.kept c.step-answered.ensures.noted c.step-answered.ensures.refused c.step-answered.ensures.counts c.step-answered.ensures.printed c.step-answered.ensures.unanswered (λ any. c.step-answered.ensures.untold (λ image there. let one = any image there in (one.0, one.1.holds)));
     }))
   where
     by_answer : (far : SoFar) (left : ℕ) (at : StandsAt far (KeepsState c.args.cache.now) (c.args.cache.now.notes) (left + 2) (g.F.Folder.told c.args.folder.now)) (result : Result Answer StepFault) → IfOk result (λ answer. ForKept (KeepsState c.args.cache.now) (g.F.Folder.told c.args.folder.now) (λ state. answer ≡ answer_of (step state c.now.result (request_of c.args.command.now)).reply))

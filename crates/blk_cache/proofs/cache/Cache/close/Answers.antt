@@ -10,12 +10,13 @@ use Rattle.law_state.proofs.Stopping.{nothing-stops, refusals-done}
 use Rattle.blk_handles.specs.Bindings.{Bindings, is_open}
 use Rattle.blk_cache.specs.CacheKeeping.{HoldsState}
 use Rattle.blk_disk.specs.Tables.{Agrees}
-use Rattle.blk_cache.proofs.CloseSteps.{bound-there, free-refused, free-there, last-entry, last-named, last-stands, several-done, was-last, was-more}
+use Rattle.blk_cache.proofs.CloseSteps.{bound-there, free-refused, free-there, last-entry, last-named, last-stands, several-done, was-last, was-more, close-spares}
 use Rattle.blk_cache.proofs.CloseGone.{closed-done, closed-may, closed-stops}
 use Rattle.blk_cache.proofs.Refusing.{says-kept}
 use Rattle.blk_chain.proofs.Heads.{names-parts}
 use Rattle.blk_object.specs.Ending.{Cleans}
 use Rattle.blk_object.proofs.DamageChecks.{handed, head-checked, moved}
+use Rattle.blk_cache.proofs.Sparing.{any-err, stayed-spares}
 use Rattle.blk_cache.proofs.cache.Cache.close.Goals as goal
 
 -- Refused.
@@ -162,3 +163,16 @@ returns-then-is_none-clause-frees g c bound =
     nothing : {A : Type 0} (o : Option A) → o ≡ None → IsSome o → ⊥
     nothing None is some = let z : false ≡ true = some in cc
     nothing (Some a) is some = cc
+
+-- It makes no step where it is refused.
+
+pub returns-in_err-charge-in-Last-clause-spares : goal.returns-in_err-charge-in-Last-clause-spares
+returns-in_err-charge-in-Last-clause-spares g c moment =
+    any-err c.from_residual.result _
+    (stayed-spares (HoldsState c.args.self.now) (g.F.Folder.told c.args.folder.now) (g.F.Folder.told c.read_charge.new.folder) moment (to_close c.args.handle) c.in_err-charge-in-Last.ensures.reads.stays)
+
+pub returns-in_err-end_last-in-Last-clause-spares : goal.returns-in_err-end_last-in-Last-clause-spares
+returns-in_err-end_last-in-Last-clause-spares g c moment =
+    let b = bound-there c.args.self.now.handles c.args.handle c.object.result c.object.ensures.object (c.is_none.ensures ∙ ap not c.if-is_none.false) in
+    any-err c.from_residual-in_err-end_last-in-Last.result _
+    (close-spares c.args.self.now c.args.handle (omega (arith, c.ranges.handle.fits)) b.0 b.1 (g.F.Folder.told c.args.folder.now) (g.F.Folder.told c.end_last.new.folder) moment)

@@ -1,5 +1,5 @@
 use Rattle.std.proofs.Common.{◌≡◌, None, Option, sym, ap, subst, ◌∙◌}
-use Rattle.std.proofs.lemmas.Result.{on_ok_weaker}
+use Rattle.std.proofs.lemmas.Result.{on_ok_weaker, on_err_weaker}
 use Rattle.std.specs.Option.{ForSome}
 use Rattle.spec_image.specs.Told.{Told}
 use Rattle.blk_io.specs.Faults.{IfDamaged}
@@ -9,13 +9,14 @@ use Rattle.blk_model.specs.declared.Refusal.{Refusal}
 use Rattle.law_state.specs.Commands.{Does, MayStopAtEach}
 use Rattle.law_state.proofs.Stopping.{nothing-stops, refusals-done}
 use Rattle.blk_cache.specs.CacheKeeping.{HoldsState}
-use Rattle.blk_cache.specs.CommandClauses.{KeepsAny}
+use Rattle.blk_cache.specs.CommandClauses.{KeepsAny, SparesRefused}
 use Rattle.blk_cache.specs.Creating.{WantsRoomAlone, create_refusal}
 use Rattle.blk_cache.specs.Stepping.{SaysEvicted, SaysPrefix}
 use Rattle.blk_cache.proofs.CreateWhole.{front-before, if_ok_weaker, refused-says}
 use Rattle.blk_cache.proofs.Refusing.{says-kept}
 use Rattle.blk_object.proofs.DamageChecks.{handed, moved}
 use Rattle.blk_evict.proofs.LookDamages.{look-checked}
+use Rattle.blk_cache.proofs.Sparing.{any-err, stayed-spares}
 use Rattle.blk_cache.proofs.cache.Cache.create.Goals as goal
 
 -- It isn't known whether it is refused.
@@ -96,3 +97,18 @@ returns-in_err-why-clause-damaged g c =
     handed c.refuses_create.result c.from_residual.result c.in_err-why.field-0.0 _ c.args.self.now.files (g.F.Folder.told c.refuses_create.new.folder)
     (λ damage wrong. moved c.args.self.now.files (g.F.Folder.told c.args.folder.now) (g.F.Folder.told c.refuses_create.new.folder) damage c.refuses_create.ensures.reads.stays (look-checked c.args.self.now.files (g.F.Folder.told c.args.folder.now) c.args.key.now damage wrong))
     c.in_err-why.was c.from_residual.ensures.1 c.refuses_create.ensures.damaged
+
+-- It makes no step where it is refused.
+
+pub returns-in_err-why-clause-spares : goal.returns-in_err-why-clause-spares
+returns-in_err-why-clause-spares g c =
+    any-err c.from_residual.result _
+    (stayed-spares (HoldsState c.args.self.now) (g.F.Folder.told c.args.folder.now) (g.F.Folder.told c.refuses_create.new.folder) c.args.moment (to_create c.args.handle c.args.key.now)
+    c.in_err-why.ensures.reads.stays)
+
+pub returns-clause-spares : goal.returns-clause-spares
+returns-clause-spares g c =
+    on_err_weaker c.create_where_room.result
+    (same-told (g.F.Folder.told c.args.folder.now) (g.F.Folder.told c.refuses_create.new.folder) (λ (t : Told). SparesRefused (HoldsState c.args.self.now) t (g.F.Folder.told c.create_where_room.new.folder) c.args.moment (to_create c.args.handle c.args.key.now)) (sym c.in_ok-why.ensures.reads.stays))
+    (c.create_where_room.ensures.spares (same-told (g.F.Folder.told c.refuses_create.new.folder) (g.F.Folder.told c.args.folder.now) (λ (t : Told). WantsRoomAlone c.args.self.now t c.args.moment c.args.handle c.args.key.now) c.in_ok-why.ensures.reads.stays
+    (λ image there state k. c.in_ok-why.ensures.refused image there state c.args.moment k ∙ ap (λ (o : Option Refusal). create_refusal o (no_room c.args.moment (to_create c.args.handle c.args.key.now) state)) c.in_default.is)))

@@ -1,4 +1,7 @@
 use Rattle.std.proofs.Common.{rules, ◌≡◌, true, false}
+use Rattle.blk_cache.proofs.Sparing.{any-err, passed-spares}
+use Rattle.blk_cache.specs.CacheKeeping.{HoldsState}
+use Rattle.blk_model.specs.Request.{to_create}
 use Rattle.blk_cache.proofs.cache.Cache.create_where_room.Goals as goal
 
 -- There is no space.
@@ -31,3 +34,9 @@ returns-clause-front g c alone = c.create_with_room.ensures.front (c.has_no_room
 
 pub returns-clause-untold : goal.returns-clause-untold
 returns-clause-untold g c alone = c.create_with_room.ensures.untold (c.has_no_room.ensures.passes (let e : c.has_no_room.result ≡ false = search rules in e) (g.F.Folder.told c.args.folder.now) c.args.moment c.args.handle alone)
+
+pub returns-clause-spares : goal.returns-clause-spares
+returns-clause-spares g c alone =
+    any-err c.create_with_room.result _
+    (passed-spares (HoldsState c.args.self.now) (g.F.Folder.told c.args.folder.now) (g.F.Folder.told c.create_with_room.new.folder) c.args.moment (to_create c.args.handle c.args.key.now)
+    (c.has_no_room.ensures.passes (let e : c.has_no_room.result ≡ false = search rules in e) (g.F.Folder.told c.args.folder.now) c.args.moment c.args.handle alone))

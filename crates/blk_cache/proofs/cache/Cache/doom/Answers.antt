@@ -9,9 +9,10 @@ use Rattle.law_state.proofs.Stopping.{nothing-stops, refusals-done}
 use Rattle.blk_cache.specs.CacheKeeping.{HoldsState}
 use Rattle.blk_cache.specs.CommandClauses.{KeepsAny}
 use Rattle.blk_cache.proofs.CloseSteps.{free-there}
-use Rattle.blk_cache.proofs.DoomSteps.{bound-object, free-refused, given-done, given-lies, given-refused, given-stops}
+use Rattle.blk_cache.proofs.DoomSteps.{bound-object, free-refused, given-done, given-lies, given-refused, given-stops, given-spares}
 use Rattle.blk_cache.proofs.Evictions.{untold-where}
 use Rattle.blk_cache.proofs.Refusing.{says-kept}
+use Rattle.blk_cache.proofs.Sparing.{any-err}
 use Rattle.blk_cache.proofs.cache.Cache.doom.Goals as goal
 
 -- Refused.
@@ -61,3 +62,9 @@ returns-clause-does g c moment =
 pub returns-clause-stops : goal.returns-clause-stops
 returns-clause-stops g c moment =
     given-stops c.args.self.now c.args.handle (omega (arith, c.ranges.handle.fits)) c.in-Some.object (bound-object c.args.self.now.handles c.args.handle c.object.result c.in-Some.object c.object.ensures.object c.in-Some.is) c.if-object.false (g.F.Folder.told c.args.folder.now) (g.F.Folder.told c.doom_open.new.folder) c.in_ok-doom_open.ensures.stops moment
+
+pub returns-in_err-doom_open-clause-spares : goal.returns-in_err-doom_open-clause-spares
+returns-in_err-doom_open-clause-spares g c moment =
+    any-err c.from_residual.result _
+    (given-spares c.args.self.now c.args.handle (omega (arith, c.ranges.handle.fits)) c.in-Some.object (bound-object c.args.self.now.handles c.args.handle c.object.result c.in-Some.object c.object.ensures.object c.in-Some.is) c.if-object.false
+    (g.F.Folder.told c.args.folder.now) (g.F.Folder.told c.doom_open.new.folder) moment)

@@ -13,11 +13,12 @@ use Rattle.blk_cache.specs.declared.dooming_objects.Target.{Target}
 use Rattle.blk_cache.specs.CacheKeeping.{HoldsState}
 use Rattle.blk_cache.specs.CommandClauses.{KeepsAny}
 use Rattle.blk_cache.specs.DoomingObjects.{IsDoomTarget, IsTargetAt}
-use Rattle.blk_cache.proofs.DoomSteps.{key-done, key-stops, missing-refused, no-key-refused}
+use Rattle.blk_cache.proofs.DoomSteps.{key-done, key-stops, missing-refused, no-key-refused, key-spares}
 use Rattle.blk_object.proofs.DamageChecks.{handed, moved}
 use Rattle.blk_cache.proofs.Evictions.{untold-where}
 use Rattle.blk_evict.proofs.LookDamages.{look-checked}
 use Rattle.blk_cache.proofs.Refusing.{says-kept}
+use Rattle.blk_cache.proofs.Sparing.{any-err, stayed-spares}
 use Rattle.blk_cache.proofs.cache.Cache.doom_key.Goals as goal
 
 -- Refused.
@@ -98,3 +99,19 @@ returns-in_err-target-clause-damaged g c =
     handed c.find_target.result c.from_residual.result c.in_err-target.field-0.0 _ c.args.self.now.files (g.F.Folder.told c.find_target.new.folder)
     (λ damage wrong. moved c.args.self.now.files (g.F.Folder.told c.args.folder.now) (g.F.Folder.told c.find_target.new.folder) damage c.find_target.ensures.reads.stays (look-checked c.args.self.now.files (g.F.Folder.told c.args.folder.now) c.args.key.now damage wrong))
     c.in_err-target.was c.from_residual.ensures.1 c.find_target.ensures.damaged
+
+-- It makes no step where it is refused.
+
+pub returns-in_err-target-clause-spares : goal.returns-in_err-target-clause-spares
+returns-in_err-target-clause-spares g c moment =
+    any-err c.from_residual.result _
+    (stayed-spares (HoldsState c.args.self.now) (g.F.Folder.told c.args.folder.now) (g.F.Folder.told c.find_target.new.folder) moment (to_doom_key c.args.key.now) c.in_err-target.ensures.reads.stays)
+
+pub returns-in_err-doom_found-clause-spares : goal.returns-in_err-doom_found-clause-spares
+returns-in_err-doom_found-clause-spares g c moment =
+    let found : ForSome (g.F.Folder.told c.args.folder.now).files (λ image. (state : State) (k : HoldsState c.args.self.now state image) → IsTargetAt state k.layout c.args.key.now c.in-Some.target) =
+    λ image there state k. subst (λ (o : Option Target). IsDoomTarget state k.layout c.args.key.now o) c.in-Some.is (c.in_ok-target.ensures.target image there state k.layout [] k.kept.entries) in
+    let bytes : IsBytes c.args.key.now = All-from_get_or (λ (b : ℕ). b < 256) c.args.key.now 0 (λ i within. omega (arith, c.type_inv.key i)) in
+    let some : no_key c.args.key.now ≡ false = search rules in
+    any-err c.from_residual-in_err-doom_found.result _
+    (key-spares c.args.self.now c.args.key.now bytes some c.in-Some.target (g.F.Folder.told c.args.folder.now) (g.F.Folder.told c.find_target.new.folder) (g.F.Folder.told c.doom_found.new.folder) c.in_ok-target.ensures.reads.stays moment found)

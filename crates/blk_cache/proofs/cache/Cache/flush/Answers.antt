@@ -7,8 +7,9 @@ use Rattle.law_state.proofs.Stopping.{nothing-stops, refusals-done}
 use Rattle.blk_cache.specs.CacheKeeping.{HoldsState}
 use Rattle.blk_cache.proofs.CloseSteps.{free-there}
 use Rattle.blk_cache.proofs.DoomSteps.{bound-object}
-use Rattle.blk_cache.proofs.FlushSteps.{flush-done, flush-idle, flush-refused, flush-stops, flush-unbound}
+use Rattle.blk_cache.proofs.FlushSteps.{flush-done, flush-idle, flush-refused, flush-stops, flush-unbound, flush-spares}
 use Rattle.blk_cache.proofs.Refusing.{says-kept}
+use Rattle.blk_cache.proofs.Sparing.{any-err}
 use Rattle.blk_cache.proofs.cache.Cache.flush.Goals as goal
 
 -- Refused.
@@ -54,3 +55,9 @@ returns-clause-stops g c moment =
 pub returns-clause-idle : goal.returns-clause-idle
 returns-clause-idle g c =
     flush-idle c.args.self.now c.args.handle (omega (arith, c.ranges.handle.fits)) c.in-Some.object (bound-object c.args.self.now.handles c.args.handle c.object.result c.in-Some.object c.object.ensures.object c.in-Some.is) (g.F.Folder.told c.args.folder.now) (g.F.Folder.told c.set_dirty.new.folder) c.in_ok-set_dirty.ensures.idle (λ e. cc)
+
+pub returns-in_err-set_dirty-clause-spares : goal.returns-in_err-set_dirty-clause-spares
+returns-in_err-set_dirty-clause-spares g c moment =
+    any-err c.from_residual.result _
+    (flush-spares c.args.self.now c.args.handle (omega (arith, c.ranges.handle.fits)) c.in-Some.object (bound-object c.args.self.now.handles c.args.handle c.object.result c.in-Some.object c.object.ensures.object c.in-Some.is) c.if-object.false
+    (g.F.Folder.told c.args.folder.now) (g.F.Folder.told c.set_dirty.new.folder) moment)

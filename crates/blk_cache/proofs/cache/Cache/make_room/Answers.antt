@@ -1,5 +1,5 @@
-use Rattle.std.proofs.Common.{◌≡◌, [], sym, subst}
-use Rattle.std.proofs.lemmas.Result.{on_ok_weaker}
+use Rattle.std.proofs.Common.{◌≡◌, [], sym, subst, false}
+use Rattle.std.proofs.lemmas.Result.{on_ok_weaker, on_err_weaker}
 use Rattle.std.specs.Option.{ForSome}
 use Rattle.spec_image.specs.Told.{Passes}
 use Rattle.blk_io.specs.Streams.{Appends}
@@ -44,3 +44,8 @@ pub returns-clause-untold : goal.returns-clause-untold
 returns-clause-untold g c any = c.make_room_beside.ensures.untold (λ image there.
     let a = any image there in
     record { state = a.0; kept = a.1; covered = []; are = subst (AreCovered a.0 a.1.layout []) (sym c.none.ensures) (none-covered a.0 a.1.layout) })
+
+pub returns-clause-tried : goal.returns-clause-tried
+returns-clause-tried g c = on_err_weaker c.make_room_beside.result
+    (for-none c.args.self.now c.none.result (g.F.Folder.told c.args.folder.now) (λ state covered. is_full (room state covered c.args.bytes c.args.items) ≡ false) c.none.ensures)
+    c.make_room_beside.ensures.tried

@@ -5,6 +5,8 @@ use Rattle.blk_model.specs.Refusals.{evicted_for, is_full}
 use Rattle.blk_model.specs.Room.{room}
 use Rattle.blk_cache.specs.CacheKeeping.{HoldsState}
 use Rattle.blk_cache.proofs.RoomMade.{full-none, none-kept, none-printed-of, none-stops}
+use Rattle.blk_cache.proofs.Sparing.{any-err}
+use Rattle.blk_cache.specs.Covering.{ForCovered}
 use Rattle.blk_cache.proofs.cache.Cache.make_room_beside.Goals as goal
 
 pub returns-then-is_full-clause-full : goal.returns-then-is_full-clause-full
@@ -74,3 +76,8 @@ pub returns-clause-front : goal.returns-clause-front
 returns-clause-front g c image there state k covered are =
     let passes : is_full (room state covered c.args.bytes c.args.items) ≡ false = sym (c.is_full.ensures.full state image k covered are) ∙ (let e : c.is_full.result ≡ false = search rules in e) in
     c.in_ok-evict_for.ensures.front image there state k covered are passes
+
+pub returns-in_err-evict_for-clause-tried : goal.returns-in_err-evict_for-clause-tried
+returns-in_err-evict_for-clause-tried g c =
+    any-err c.from_residual.result (ForCovered c.args.self.now c.args.parts.now (g.F.Folder.told c.args.folder.now) (λ state covered. is_full (room state covered c.args.bytes c.args.items) ≡ false))
+    (λ image there state k covered are. sym (c.is_full.ensures.full state image k covered are) ∙ (let e : c.is_full.result ≡ false = search rules in e))

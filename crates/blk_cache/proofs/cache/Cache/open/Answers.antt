@@ -12,10 +12,11 @@ use Rattle.blk_evict.specs.declared.looking.Live.{Live}
 use Rattle.blk_cache.specs.CacheKeeping.{HoldsState}
 use Rattle.blk_cache.specs.CommandClauses.{IsOpenDamage}
 use Rattle.blk_evict.specs.Looking.{IsLive}
-use Rattle.blk_cache.proofs.OpenSteps.{IsFoundIn, mid-listed, opened-does, opened-stops}
+use Rattle.blk_cache.proofs.OpenSteps.{IsFoundIn, mid-listed, opened-does, opened-stops, opened-spares}
 use Rattle.blk_cache.proofs.Refusing.{refused-early, refused-missing, says-kept}
 use Rattle.blk_object.proofs.DamageChecks.{handed, moved, touch-checked}
 use Rattle.blk_evict.proofs.LookDamages.{look-checked}
+use Rattle.blk_cache.proofs.Sparing.{any-err, stayed-spares}
 use Rattle.blk_cache.proofs.cache.Cache.open.Goals as goal
 
 -- Refused by the names and the key.
@@ -114,3 +115,19 @@ returns-in_err-live-clause-cause g c =
     handed c.find_live.result c.from_residual.result c.in_err-live.field-0.0 _ c.args.self.now.files (g.F.Folder.told c.find_live.new.folder)
     (λ damage wrong. moved c.args.self.now.files (g.F.Folder.told c.args.folder.now) (g.F.Folder.told c.find_live.new.folder) damage c.find_live.ensures.reads.stays (look-checked c.args.self.now.files (g.F.Folder.told c.args.folder.now) c.args.key.now damage wrong))
     c.in_err-live.was c.from_residual.ensures.1 c.find_live.ensures.damaged
+
+-- It makes no step where it is refused.
+
+pub returns-in_err-live-clause-spares : goal.returns-in_err-live-clause-spares
+returns-in_err-live-clause-spares g c =
+    any-err c.from_residual.result _
+    (stayed-spares (HoldsState c.args.self.now) (g.F.Folder.told c.args.folder.now) (g.F.Folder.told c.find_live.new.folder) c.args.moment (to_open c.args.handle c.args.key.now)
+    c.in_err-live.ensures.reads.stays)
+
+pub returns-in_err-touch-clause-spares : goal.returns-in_err-touch-clause-spares
+returns-in_err-touch-clause-spares g c =
+    let old : Told = g.F.Folder.told c.args.folder.now in
+    let found : IsFoundIn old c.args.key.now c.in-Some-2.live = λ image there state layout unlinked k. subst (λ (o : Option Live). IsLive state layout c.args.key.now o) c.in-Some-2.is (c.in_ok-live.ensures.live image there state layout unlinked k) in
+    any-err c.from_residual-in_err-touch.result _
+    (opened-spares c.args.self.now old (g.F.Folder.told c.find_live.new.folder) (g.F.Folder.told c.touch.new.f) c.in_ok-live.ensures.reads.stays c.args.moment c.args.handle c.args.key.now c.in-Some-2.live found
+    (sym c.refuses_open.ensures ∙ c.in_default.is) c.node_of-node.result c.node_of-node.ensures.same c.node_of-node.ensures.new)

@@ -2,18 +2,20 @@ use Rattle.std.proofs.Common.{refl, sym, ap, subst, ◌∙◌}
 use Rattle.std.specs.Option.{ForSome}
 use Rattle.spec_image.specs.Told.{Told}
 use Rattle.blk_disk.specs.Open.{IsOpen}
-use Rattle.std.specs.Prelude.{IfOk, OnOk}
-use Rattle.blk_model.specs.Request.{request_of, to_close, to_doom, to_doom_key, to_flush, to_list, to_open, to_read, to_size, to_total}
+use Rattle.std.specs.Prelude.{IfOk, OnOk, OnErr}
+use Rattle.blk_model.specs.Request.{request_of, to_close, to_doom, to_doom_key, to_flush, to_list, to_open, to_read, to_size, to_total, to_trim}
 use Rattle.blk_model.specs.declared.Command.{Command}
 use Rattle.law_state.specs.Commands.{Does, MayStopAtEach}
 use Rattle.law_state.proofs.Stopping.{nothing-stops}
 use Rattle.blk_cache.specs.CacheKeeping.{HoldsState}
-use Rattle.blk_cache.specs.CommandClauses.{FlushesClean}
+use Rattle.blk_cache.specs.CommandClauses.{FlushesClean, SparesRefused}
 use Rattle.blk_cache.specs.Stepping.{SaysEvicted, SaysPrefix}
 use Rattle.blk_cache.proofs.CreateWhole.{on-ok}
 use Rattle.blk_cache.proofs.Refusing.{says-kept}
 use Rattle.blk_cache.proofs.SparseCommands.{is-on-sparse}
 use Rattle.blk_cache.proofs.StepTexts.{prefix-nothing, says-nothing}
+use Rattle.blk_cache.proofs.Sparing.{any-err, passed-spares, stayed-spares}
+use Rattle.blk_cache.proofs.TrimSteps.{trim-passes}
 use Rattle.blk_cache.proofs.cache.Cache.perform.Goals as goal
 
 pub returns-in-Create-clause-stops : goal.returns-in-Create-clause-stops
@@ -211,3 +213,45 @@ returns-in-Flush-clause-idle g c image there state k flushes =
 
 pub perform_sparse-requires-clause-on_sparse : goal.perform_sparse-requires-clause-on_sparse
 perform_sparse-requires-clause-on_sparse g c = is-on-sparse c.args.command.now c.in_default.not-Create c.in_default.not-Open c.in_default.not-Read c.in_default.not-Write c.in_default.not-Size c.in_default.not-Doom c.in_default.not-DoomKey c.in_default.not-Close c.in_default.not-Flush c.in_default.not-List c.in_default.not-Trim c.in_default.not-Total
+
+-- It makes no step where it is refused.
+
+pub returns-in-Create-clause-spares : goal.returns-in-Create-clause-spares
+returns-in-Create-clause-spares g c = subst (λ (cmd : Command). OnErr c.create.result (SparesRefused (HoldsState c.args.self.now) (g.F.Folder.told c.args.folder.now) (g.F.Folder.told c.create.new.folder) c.args.moment (request_of cmd))) (sym c.in-Create.is) c.create.ensures.spares
+
+pub returns-in-Open-clause-spares : goal.returns-in-Open-clause-spares
+returns-in-Open-clause-spares g c = subst (λ (cmd : Command). OnErr c.open.result (SparesRefused (HoldsState c.args.self.now) (g.F.Folder.told c.args.folder.now) (g.F.Folder.told c.open.new.folder) c.args.moment (request_of cmd))) (sym c.in-Open.is) c.open.ensures.spares
+
+pub returns-in-Read-clause-spares : goal.returns-in-Read-clause-spares
+returns-in-Read-clause-spares g c = subst (λ (cmd : Command). OnErr c.use_read.result (SparesRefused (HoldsState c.args.self.now) (g.F.Folder.told c.args.folder.now) (g.F.Folder.told c.use_read.new.folder) c.args.moment (request_of cmd))) (sym c.in-Read.is) c.use_read.ensures.spares
+
+pub returns-in-Write-clause-spares : goal.returns-in-Write-clause-spares
+returns-in-Write-clause-spares g c = subst (λ (cmd : Command). OnErr c.write.result (SparesRefused (HoldsState c.args.self.now) (g.F.Folder.told c.args.folder.now) (g.F.Folder.told c.write.new.folder) c.args.moment (request_of cmd))) (sym c.in-Write.is) c.write.ensures.spares
+
+pub returns-in-Doom-clause-spares : goal.returns-in-Doom-clause-spares
+returns-in-Doom-clause-spares g c = subst (λ (cmd : Command). OnErr c.doom.result (SparesRefused (HoldsState c.args.self.now) (g.F.Folder.told c.args.folder.now) (g.F.Folder.told c.doom.new.folder) c.args.moment (request_of cmd))) (sym c.in-Doom.is) (c.doom.ensures.spares c.args.moment)
+
+pub returns-in-DoomKey-clause-spares : goal.returns-in-DoomKey-clause-spares
+returns-in-DoomKey-clause-spares g c = subst (λ (cmd : Command). OnErr c.doom_key.result (SparesRefused (HoldsState c.args.self.now) (g.F.Folder.told c.args.folder.now) (g.F.Folder.told c.doom_key.new.folder) c.args.moment (request_of cmd))) (sym c.in-DoomKey.is) (c.doom_key.ensures.spares c.args.moment)
+
+pub returns-in-Close-clause-spares : goal.returns-in-Close-clause-spares
+returns-in-Close-clause-spares g c = subst (λ (cmd : Command). OnErr c.close.result (SparesRefused (HoldsState c.args.self.now) (g.F.Folder.told c.args.folder.now) (g.F.Folder.told c.close.new.folder) c.args.moment (request_of cmd))) (sym c.in-Close.is) (c.close.ensures.spares c.args.moment)
+
+pub returns-in-Flush-clause-spares : goal.returns-in-Flush-clause-spares
+returns-in-Flush-clause-spares g c = subst (λ (cmd : Command). OnErr c.flush.result (SparesRefused (HoldsState c.args.self.now) (g.F.Folder.told c.args.folder.now) (g.F.Folder.told c.flush.new.folder) c.args.moment (request_of cmd))) (sym c.in-Flush.is) (c.flush.ensures.spares c.args.moment)
+
+pub returns-in-Size-clause-spares : goal.returns-in-Size-clause-spares
+returns-in-Size-clause-spares g c =
+    any-err c.size.result _
+    (stayed-spares (HoldsState c.args.self.now) (g.F.Folder.told c.args.folder.now) (g.F.Folder.told c.size.new.folder) c.args.moment (request_of c.args.command.now) c.size.ensures.reads.stays)
+
+pub returns-in-List-clause-spares : goal.returns-in-List-clause-spares
+returns-in-List-clause-spares g c =
+    any-err c.list.result _
+    (stayed-spares (HoldsState c.args.self.now) (g.F.Folder.told c.args.folder.now) (g.F.Folder.told c.list.new.folder) c.args.moment (request_of c.args.command.now) c.list.ensures.reads.stays)
+
+pub returns-in-Trim-clause-spares : goal.returns-in-Trim-clause-spares
+returns-in-Trim-clause-spares g c =
+    any-err c.trim.result _
+    (subst (λ (cmd : Command). SparesRefused (HoldsState c.args.self.now) (g.F.Folder.told c.args.folder.now) (g.F.Folder.told c.trim.new.folder) c.args.moment (request_of cmd)) (sym c.in-Trim.is)
+    (passed-spares (HoldsState c.args.self.now) (g.F.Folder.told c.args.folder.now) (g.F.Folder.told c.trim.new.folder) c.args.moment (to_trim c.in-Trim.bytes) (λ image there state k. trim-passes c.args.moment c.in-Trim.bytes state)))

@@ -1,10 +1,10 @@
 use Rattle.std.proofs.Common.{sym, subst}
-use Rattle.std.specs.Prelude.{IfOk, OnOk}
+use Rattle.std.specs.Prelude.{IfOk, OnOk, OnErr}
 use Rattle.blk_model.specs.Request.{request_of, to_sparse_range, to_sparse_read}
 use Rattle.blk_model.specs.declared.Command.{Command}
 use Rattle.law_state.specs.Commands.{Does, MayStopAtEach}
 use Rattle.blk_cache.specs.CacheKeeping.{HoldsState}
-use Rattle.blk_cache.specs.CommandClauses.{FlushesClean}
+use Rattle.blk_cache.specs.CommandClauses.{FlushesClean, SparesRefused}
 use Rattle.blk_cache.specs.Stepping.{SaysEvicted, SaysPrefix}
 use Rattle.blk_cache.proofs.CreateWhole.{on-ok}
 use Rattle.blk_cache.proofs.SparseCommands.{no-fourth}
@@ -61,3 +61,12 @@ returns-in-SparseRange-clause-idle g c image there state k flushes = absurd (sub
 
 pub unreachable-requires : goal.unreachable-requires
 unreachable-requires g c = no-fourth c.args.command.now c.requires.on_sparse c.in_default.not-SparseWrite c.in_default.not-SparseRead c.in_default.not-SparseRange
+
+pub returns-in-SparseWrite-clause-spares : goal.returns-in-SparseWrite-clause-spares
+returns-in-SparseWrite-clause-spares g c = subst (λ (cmd : Command). OnErr c.sparse_write.result (SparesRefused (HoldsState c.args.self.now) (g.F.Folder.told c.args.folder.now) (g.F.Folder.told c.sparse_write.new.folder) c.args.moment (request_of cmd))) (sym c.in-SparseWrite.is) c.sparse_write.ensures.spares
+
+pub returns-in-SparseRead-clause-spares : goal.returns-in-SparseRead-clause-spares
+returns-in-SparseRead-clause-spares g c = subst (λ (cmd : Command). OnErr c.use_sparse.result (SparesRefused (HoldsState c.args.self.now) (g.F.Folder.told c.args.folder.now) (g.F.Folder.told c.use_sparse.new.folder) c.args.moment (request_of cmd))) (sym c.in-SparseRead.is) c.use_sparse.ensures.spares
+
+pub returns-in-SparseRange-clause-spares : goal.returns-in-SparseRange-clause-spares
+returns-in-SparseRange-clause-spares g c = subst (λ (cmd : Command). OnErr c.use_sparse-in-SparseRange.result (SparesRefused (HoldsState c.args.self.now) (g.F.Folder.told c.args.folder.now) (g.F.Folder.told c.use_sparse-in-SparseRange.new.folder) c.args.moment (request_of cmd))) (sym c.in-SparseRange.is) c.use_sparse-in-SparseRange.ensures.spares

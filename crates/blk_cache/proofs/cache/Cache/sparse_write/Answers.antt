@@ -1,5 +1,5 @@
 use Rattle.std.proofs.Common.{◌≡◌, None, sym, subst, length}
-use Rattle.std.specs.Prelude.{IfOk, OnOk}
+use Rattle.std.specs.Prelude.{IfOk, OnOk, OnErr}
 use Rattle.std.specs.Option.{ForSome}
 use Rattle.spec_image.specs.Told.{Told}
 use Rattle.blk_io.specs.Faults.{IfDamaged}
@@ -8,12 +8,13 @@ use Rattle.blk_disk.specs.Open.{IsOpen}
 use Rattle.law_state.specs.Commands.{Does, MayStopAtEach}
 use Rattle.law_state.proofs.Stopping.{nothing-stops, refusals-done}
 use Rattle.blk_cache.specs.CacheKeeping.{HoldsState}
-use Rattle.blk_cache.specs.CommandClauses.{KeepsAny}
+use Rattle.blk_cache.specs.CommandClauses.{KeepsAny, SparesRefused}
 use Rattle.blk_cache.specs.Stepping.{SaysEvicted, SaysPrefix}
 use Rattle.blk_cache.proofs.Refusing.{says-kept}
 use Rattle.blk_cache.proofs.SparseAsks.{nothing-early}
 use Rattle.blk_cache.proofs.SparseWhole.{asked-refused, found-bound, found-named, found-stands}
 use Rattle.blk_cache.proofs.WriteWhole.{front-before, refused-says}
+use Rattle.blk_cache.proofs.Sparing.{any-err, stayed-spares}
 use Rattle.blk_cache.proofs.cache.Cache.sparse_write.Goals as goal
 
 -- It isn't known whether it is refused.
@@ -97,3 +98,16 @@ write_target-requires-clause-inside g c = (found-stands c.args.self.now.files c.
 
 pub write_target-requires-clause-is_open : goal.write_target-requires-clause-is_open
 write_target-requires-clause-is_open g c = subst (λ (t : Told). ForSome t.files (IsOpen c.args.self.now.files)) (sym c.in_ok-asked.ensures.reads.stays) c.requires.is_open
+
+-- It makes no step where it is refused.
+
+pub returns-in_err-asked-clause-spares : goal.returns-in_err-asked-clause-spares
+returns-in_err-asked-clause-spares g c =
+    any-err c.from_residual.result _
+    (stayed-spares (HoldsState c.args.self.now) (g.F.Folder.told c.args.folder.now) (g.F.Folder.told c.ask_target.new.folder) c.args.request.now.moment (to_sparse_write c.args.request.now.handle c.args.request.now.offset c.args.request.now.bytes.now) c.in_err-asked.ensures.reads.stays)
+
+pub returns-in-Found-clause-spares : goal.returns-in-Found-clause-spares
+returns-in-Found-clause-spares g c =
+    subst (λ (t : Told). OnErr c.write_target.result (SparesRefused (HoldsState c.args.self.now) t (g.F.Folder.told c.write_target.new.folder) c.args.request.now.moment (to_sparse_write c.args.request.now.handle c.args.request.now.offset c.args.request.now.bytes.now))) c.in_ok-asked.ensures.reads.stays
+    (c.write_target.ensures.spares (found-named c.args.self.now (g.F.Folder.told c.args.folder.now) (g.F.Folder.told c.ask_target.new.folder) c.in_ok-asked.ensures.reads.stays c.args.request.now.moment c.args.request.now.handle c.args.request.now.offset c.args.request.now.bytes.now
+    c.in_ok-asked.asked c.in_ok-asked.ensures.asked c.in-Found.target c.in-Found.is))

@@ -9,8 +9,8 @@ use Rattle.law_state.specs.Commands.{ForKept, IsNoted, IsStepped, note_number}
 use Rattle.blk_object.specs.FailedChecks.{IsFailedCheck}
 use Rattle.blk_cache.specs.CacheKeeping.{KeepsState}
 use Rattle.blk_cache.specs.CommandClauses.{FlushesClean, IsRefused}
-use Rattle.blk_cache.specs.Stepping.{IfStepDamaged}
-use Rattle.blk_cache.proofs.Notes.{not-noted, noted-does, noted-ends, noted-keeps, noted-steps, open-on, refused-notes, same-files, clean-notes}
+use Rattle.blk_cache.specs.Stepping.{IfStepDamaged, NotesAlone}
+use Rattle.blk_cache.proofs.Notes.{not-noted, noted-alone, noted-does, noted-ends, noted-keeps, noted-steps, open-on, refused-notes, same-files, clean-notes, quiet-spares}
 use Rattle.blk_cache.proofs.StepEnds.{any-damaged, by-files, damaged-on, failed-before, failed-behind, kept-behind, open-behind}
 use Rattle.blk_cache.proofs.StepTexts.{any-after, prefix-of-whole, prefix-printed, none-before, whole-printed}
 use Rattle.blk_cache.proofs.cache.Cache.step.Goals as goal
@@ -27,7 +27,7 @@ returns-in_err-answer-clause-front g c =
 
 pub returns-in_err-answer-clause-unanswered : goal.returns-in_err-answer-clause-unanswered
 returns-in_err-answer-clause-unanswered g c =
-    failed-before c.from_residual.result c.args.self.now (g.F.Folder.told c.args.f.now) (g.F.Folder.told c.perform.new.folder) c.args.moment (request_of c.args.command.now) (note_number (c.args.self.now.notes + 1)) (g.K.Sink.written c.args.out.now) (g.K.Sink.written c.perform.new.out) c.in_err-answer.ensures.front
+    failed-before c.from_residual.result c.args.self.now (g.F.Folder.told c.args.f.now) (g.F.Folder.told c.perform.new.folder) c.args.moment (request_of c.args.command.now) (note_number (c.args.self.now.notes + 1)) (g.K.Sink.written c.args.out.now) (g.K.Sink.written c.perform.new.out) c.in_err-answer.ensures.front c.in_err-answer.ensures.spares
 
 -- The note isn't made.
 
@@ -42,6 +42,8 @@ returns-in_err-note-clause-front g c =
 pub returns-in_err-note-clause-unanswered : goal.returns-in_err-note-clause-unanswered
 returns-in_err-note-clause-unanswered g c =
     failed-before c.from_residual-in_err-note.result c.args.self.now (g.F.Folder.told c.args.f.now) (g.F.Folder.told c.note.new.folder) c.args.moment (request_of c.args.command.now) (note_number (c.args.self.now.notes + 1)) (g.K.Sink.written c.args.out.now) (g.K.Sink.written c.perform.new.out) c.in_ok-answer.ensures.front
+    (quiet-spares c.args.self.now c.perform.new.self (g.F.Folder.told c.args.f.now) (g.F.Folder.told c.perform.new.folder) (g.F.Folder.told c.note.new.folder) c.args.moment (request_of c.args.command.now)
+    c.in_ok-answer.answer c.in_ok-answer.ensures.does c.in_ok-answer.ensures.quiet c.in_err-note.ensures.undone)
 
 -- the note that is made
 made : (old mid : ℕ) (told now : Told) → mid ≡ old → Applies told now (Note (note_number (mid + 1)) ∷ []) → Applies told now (Note (note_number (old + 1)) ∷ [])
@@ -70,9 +72,9 @@ returns-in_err-reply-clause-front g c =
 pub returns-in_err-reply-clause-unanswered : goal.returns-in_err-reply-clause-unanswered
 returns-in_err-reply-clause-unanswered g c =
     failed-behind c.from_residual-in_err-reply.result c.args.self.now (g.F.Folder.told c.args.f.now) (g.F.Folder.told c.reply.new.folder) c.args.moment (request_of c.args.command.now) (note_number (c.args.self.now.notes + 1)) (g.K.Sink.written c.args.out.now) (g.K.Sink.written c.reply.new.out)
-    (subst (λ (t : Told). ForKept (KeepsState c.args.self.now) (g.F.Folder.told c.args.f.now) (IsNoted (g.F.Folder.told c.args.f.now) t c.args.moment (request_of c.args.command.now) (note_number (c.args.self.now.notes + 1)))) (sym c.in_err-reply.ensures.reads.stays)
-    (noted-ends c.args.self.now c.perform.new.self c.note.new.self (g.F.Folder.told c.args.f.now) (g.F.Folder.told c.perform.new.folder) (g.F.Folder.told c.note.new.folder) c.args.moment (request_of c.args.command.now) (note_number (c.args.self.now.notes + 1)) c.in_ok-answer.ensures.stops c.in_ok-answer.answer c.in_ok-answer.ensures.does
-    (made c.args.self.now.notes c.perform.new.self.notes (g.F.Folder.told c.perform.new.folder) (g.F.Folder.told c.note.new.folder) c.in_ok-answer.ensures.notes c.in_ok-note.ensures.done) c.in_ok-note.ensures.others))
+    (subst (λ (t : Told). ForKept (KeepsState c.args.self.now) (g.F.Folder.told c.args.f.now) (NotesAlone (g.F.Folder.told c.args.f.now) t c.args.moment (request_of c.args.command.now) (note_number (c.args.self.now.notes + 1)))) (sym c.in_err-reply.ensures.reads.stays)
+    (noted-alone c.args.self.now c.perform.new.self c.note.new.self (g.F.Folder.told c.args.f.now) (g.F.Folder.told c.perform.new.folder) (g.F.Folder.told c.note.new.folder) c.args.moment (request_of c.args.command.now) (note_number (c.args.self.now.notes + 1)) c.in_ok-answer.ensures.stops c.in_ok-answer.answer c.in_ok-answer.ensures.does
+    (made c.args.self.now.notes c.perform.new.self.notes (g.F.Folder.told c.perform.new.folder) (g.F.Folder.told c.note.new.folder) c.in_ok-answer.ensures.notes c.in_ok-note.ensures.done) c.in_ok-note.ensures.others c.in_ok-answer.ensures.quiet))
 
 pub returns-in_err-reply-clause-untold : goal.returns-in_err-reply-clause-untold
 returns-in_err-reply-clause-untold g c any =

@@ -11,9 +11,10 @@ use Rattle.law_state.proofs.Stopping.{nothing-stops}
 use Rattle.blk_cache.specs.Asking.{IsAsked, StandsAmong}
 use Rattle.blk_cache.specs.CacheKeeping.{HoldsState}
 use Rattle.blk_cache.specs.Reading.{IsCommandReadDamage}
-use Rattle.blk_cache.proofs.ReadSteps.{mid-listed, read-does, read-refuses, read-stops}
+use Rattle.blk_cache.proofs.ReadSteps.{mid-listed, read-does, read-refuses, read-stops, read-spares}
 use Rattle.blk_cache.proofs.Refusing.{says-kept}
 use Rattle.blk_object.proofs.DamageChecks.{handed, touch-checked}
+use Rattle.blk_cache.proofs.Sparing.{any-err, stayed-spares}
 use Rattle.blk_cache.proofs.cache.Cache.use_read.Goals as goal
 
 -- Refused, or the record can't be read.
@@ -94,3 +95,18 @@ pub returns-in_err-use_item-in-Stream-clause-cause : goal.returns-in_err-use_ite
 returns-in_err-use_item-in-Stream-clause-cause g c =
     handed c.use_item.result c.from_residual-in_err-use_item-in-Stream.result c.in_err-use_item-in-Stream.field-0.0 _ c.args.self.now.files (g.F.Folder.told c.use_item.new.folder)
     (touch-checked c.in-Stream.named.node c.args.self.now.files (g.F.Folder.told c.ask_stream.new.folder) (g.F.Folder.told c.use_item.new.folder)) c.in_err-use_item-in-Stream.was c.from_residual-in_err-use_item-in-Stream.ensures.1 c.use_item.ensures.damaged
+
+-- It makes no step where it is refused.
+
+pub returns-in_err-asked-clause-spares : goal.returns-in_err-asked-clause-spares
+returns-in_err-asked-clause-spares g c =
+    any-err c.from_residual.result _
+    (stayed-spares (HoldsState c.args.self.now) (g.F.Folder.told c.args.folder.now) (g.F.Folder.told c.ask_stream.new.folder) c.args.moment (to_read c.args.handle c.args.stream c.args.offset c.args.count)
+    c.in_err-asked.ensures.reads.stays)
+
+pub returns-in_err-use_item-in-Stream-clause-spares : goal.returns-in_err-use_item-in-Stream-clause-spares
+returns-in_err-use_item-in-Stream-clause-spares g c =
+    any-err c.from_residual-in_err-use_item-in-Stream.result _
+    (read-spares c.args.self.now (g.F.Folder.told c.args.folder.now) (g.F.Folder.told c.ask_stream.new.folder) c.in_ok-asked.ensures.reads.stays c.args.moment c.args.handle c.args.stream c.args.offset c.args.count c.in-Stream.named
+    (λ image there state k. subst (IsAsked state k.layout c.args.handle c.args.stream) c.in-Stream.is (c.in_ok-asked.ensures.asked image there state k))
+    (g.F.Folder.told c.use_item.new.folder) c.use_item.result c.use_item.ensures.uses)

@@ -13,7 +13,8 @@ use Rattle.blk_cache.specs.SparseAsking.{FindsInside, IsAmongFiles, IsAskedSpars
 use Rattle.blk_cache.specs.SparseReading.{to_use_sparse}
 use Rattle.blk_cache.proofs.Refusing.{says-kept}
 use Rattle.blk_cache.proofs.SparseAsks.{nothing-early}
-use Rattle.blk_cache.proofs.SparseUses.{four-refuse, plain-refused, run-told, sparse-does, sparse-parent, sparse-refuses, sparse-stops}
+use Rattle.blk_cache.proofs.SparseUses.{four-refuse, plain-refused, run-told, sparse-does, sparse-parent, sparse-refuses, sparse-stops, sparse-spares}
+use Rattle.blk_cache.proofs.Sparing.{any-err, stayed-spares}
 use Rattle.blk_cache.proofs.cache.Cache.use_sparse.Goals as goal
 
 -- Refused, or the record can't be read.
@@ -111,3 +112,17 @@ returns-in_ok-found-in-Parent-clause-quiet g c r = absurd (run-told c.args.wante
 
 pub returns-in_ok-found-in-Parent-clause-unchanged : goal.returns-in_ok-found-in-Parent-clause-unchanged
 returns-in_ok-found-in-Parent-clause-unchanged g c r = absurd (run-told c.args.wanted c.args.offset (c.in_ok-found-in-Parent.found.0, c.in_ok-found-in-Parent.found.1) (subst IsRefused c.told_of_run.ensures r))
+
+-- It makes no step where it is refused.
+
+pub returns-in_err-asked-clause-spares : goal.returns-in_err-asked-clause-spares
+returns-in_err-asked-clause-spares g c =
+    any-err c.from_residual.result _
+    (stayed-spares (HoldsState c.args.self.now) (g.F.Folder.told c.args.folder.now) (g.F.Folder.told c.ask_sparse.new.folder) c.args.moment (to_use_sparse c.args.wanted c.args.handle c.args.offset c.args.count)
+    c.in_err-asked.ensures.reads.stays)
+
+pub returns-in_err-found-in-Parent-clause-spares : goal.returns-in_err-found-in-Parent-clause-spares
+returns-in_err-found-in-Parent-clause-spares g c =
+    any-err c.from_residual-in_err-found-in-Parent.result _
+    (sparse-spares c.args.self.now (g.F.Folder.told c.args.folder.now) (g.F.Folder.told c.ask_sparse.new.folder) (g.F.Folder.told c.use_range.new.folder) c.in_ok-asked.ensures.reads.stays c.args.moment c.args.handle c.args.offset c.args.count c.args.wanted
+    c.in-Parent.parent (λ image there state k. subst (IsAskedSparse state k.layout c.args.handle c.args.offset c.args.count) c.in-Parent.is (c.in_ok-asked.ensures.asked image there state k)))

@@ -1,9 +1,9 @@
-use Rattle.std.proofs.Common.{◌≡◌, [], sym, ap, subst, ◌∙◌}
+use Rattle.std.proofs.Common.{◌≡◌, [], sym, ap, subst, ◌∙◌, false}
 use Rattle.std.specs.Option.{ForSome}
 use Rattle.spec_image.specs.Image.{Image}
 use Rattle.spec_image.specs.Told.{Passes, Told}
 use Rattle.blk_io.specs.Streams.{Appends}
-use Rattle.blk_model.specs.Refusals.{evicted_for}
+use Rattle.blk_model.specs.Refusals.{evicted_for, is_full}
 use Rattle.blk_model.specs.Request.{to_write}
 use Rattle.blk_model.specs.Room.{room, without}
 use Rattle.blk_model.specs.State.{State}
@@ -20,7 +20,8 @@ use Rattle.blk_evict.specs.RoomPrinting.{PrintsUnlessFailed}
 use Rattle.blk_cache.specs.Writing.{IsAskedToWrite}
 use Rattle.blk_cache.proofs.CreateWhole.{if_ok_weaker, on-ok}
 use Rattle.blk_cache.proofs.Refusing.{says-kept}
-use Rattle.blk_cache.proofs.WriteWhole.{front-before, made-front, made-says, refused-full, refused-says, room-stops, whole-does, whole-stops, whole-untold, write-wants}
+use Rattle.blk_cache.proofs.WriteWhole.{front-before, made-front, made-says, refused-full, refused-says, room-stops, whole-does, whole-stops, whole-untold, write-wants, tried-spares}
+use Rattle.blk_cache.proofs.Sparing.{any-err, stayed-spares}
 use Rattle.blk_cache.proofs.cache.Cache.write.Goals as goal
 
 -- what holds of each state that is kept, on the same folder
@@ -154,3 +155,29 @@ returns-in-Made-clause-untold g c some =
     c.make_room.new.self
     (same-told (HoldsState c.args.self.now) (g.F.Folder.told c.args.folder.now) (g.F.Folder.told c.refuses_write.new.folder) (λ told state. ForSome (g.F.Folder.told c.make_room.new.folder).files (HoldsState c.make_room.new.self (without (evicted_for (room state [] c.rise-rise.result 0)) state))) c.in_ok-asked.ensures.reads.stays c.in_ok-make_room-in-Stream.ensures.made)
     c.end_write.result c.end_write.ensures.untold some
+
+-- It makes no step where it is refused.
+
+pub returns-in_err-asked-clause-spares : goal.returns-in_err-asked-clause-spares
+returns-in_err-asked-clause-spares g c =
+    any-err c.from_residual.result _
+    (stayed-spares (HoldsState c.args.self.now) (g.F.Folder.told c.args.folder.now) (g.F.Folder.told c.refuses_write.new.folder) c.args.request.now.moment (to_write c.args.request.now.handle c.args.request.now.stream c.args.request.now.offset c.args.request.now.cut c.args.request.now.bytes.now) c.in_err-asked.ensures.reads.stays)
+
+pub returns-in_err-make_room-in-Stream-clause-spares : goal.returns-in_err-make_room-in-Stream-clause-spares
+returns-in_err-make_room-in-Stream-clause-spares g c =
+    any-err c.from_residual-in_err-make_room-in-Stream.result _
+    (tried-spares c.args.request.now.moment (to_write c.args.request.now.handle c.args.request.now.stream c.args.request.now.offset c.args.request.now.cut c.args.request.now.bytes.now) c.rise-rise.result c.args.self.now (g.F.Folder.told c.args.folder.now)
+    (write-wants c.args.request.now.moment c.args.request.now.handle c.args.request.now.stream c.args.request.now.offset c.args.request.now.cut c.args.request.now.bytes.now c.args.self.now (g.F.Folder.told c.args.folder.now) c.in-Stream.named c.rise-rise.result c.rise-rise.ensures
+    (λ image there state k. subst (IsAskedToWrite state k.layout c.args.request.now.moment c.args.request.now.handle c.args.request.now.stream c.args.request.now.offset c.args.request.now.cut c.args.request.now.bytes.now) c.in-Stream.is (c.in_ok-asked.ensures.asked image there state c.args.request.now.moment c.args.request.now.cut k)))
+    (g.F.Folder.told c.make_room.new.folder)
+    (same-told (HoldsState c.args.self.now) (g.F.Folder.told c.args.folder.now) (g.F.Folder.told c.refuses_write.new.folder) (λ told state. is_full (room state [] c.rise-rise.result 0) ≡ false) c.in_ok-asked.ensures.reads.stays
+    c.in_err-make_room-in-Stream.ensures.tried))
+
+pub returns-in-Made-clause-spares : goal.returns-in-Made-clause-spares
+returns-in-Made-clause-spares g c =
+    any-err c.end_write.result _
+    (tried-spares c.args.request.now.moment (to_write c.args.request.now.handle c.args.request.now.stream c.args.request.now.offset c.args.request.now.cut c.args.request.now.bytes.now) c.rise-rise.result c.args.self.now (g.F.Folder.told c.args.folder.now)
+    (write-wants c.args.request.now.moment c.args.request.now.handle c.args.request.now.stream c.args.request.now.offset c.args.request.now.cut c.args.request.now.bytes.now c.args.self.now (g.F.Folder.told c.args.folder.now) c.in-Stream.named c.rise-rise.result c.rise-rise.ensures
+    (λ image there state k. subst (IsAskedToWrite state k.layout c.args.request.now.moment c.args.request.now.handle c.args.request.now.stream c.args.request.now.offset c.args.request.now.cut c.args.request.now.bytes.now) c.in-Stream.is (c.in_ok-asked.ensures.asked image there state c.args.request.now.moment c.args.request.now.cut k)))
+    (g.F.Folder.told c.end_write.new.folder)
+    (λ image there state k. sym (c.in_ok-make_room-in-Stream.ensures.full image (ap (λ (t : Told). t.files) c.in_ok-asked.ensures.reads.stays ∙ there) state k) ∙ ap says_full c.in-Made.is))

@@ -1,6 +1,6 @@
 use Rattle.std.proofs.Common.{◌≡◌, None, sym, ap, subst, ◌∙◌}
-use Rattle.std.specs.Prelude.{IfOk, OnOk}
-use Rattle.std.proofs.lemmas.Result.{on_ok_weaker}
+use Rattle.std.specs.Prelude.{IfOk, OnOk, OnErr}
+use Rattle.std.proofs.lemmas.Result.{on_ok_weaker, on_err_weaker}
 use Rattle.std.specs.Option.{ForSome}
 use Rattle.spec_image.specs.Told.{Told}
 use Rattle.blk_io.proofs.Carried.{carried}
@@ -12,12 +12,13 @@ use Rattle.law_state.specs.Commands.{Does, MayStopAtEach}
 use Rattle.law_state.proofs.Stopping.{nothing-stops}
 use Rattle.blk_print.proofs.PresentRanges.{by-files}
 use Rattle.blk_cache.specs.CacheKeeping.{HoldsState}
-use Rattle.blk_cache.specs.CommandClauses.{KeepsAny}
+use Rattle.blk_cache.specs.CommandClauses.{KeepsAny, SparesRefused}
 use Rattle.blk_cache.specs.Stepping.{SaysEvicted, SaysPrefix}
 use Rattle.blk_cache.proofs.CreateWhole.{if_ok_weaker}
 use Rattle.blk_cache.proofs.Refusing.{says-kept}
 use Rattle.blk_cache.proofs.SparseWhole.{any-kept, asks-then, for-kept, room-then}
 use Rattle.blk_cache.proofs.WriteWhole.{front-before}
+use Rattle.blk_cache.proofs.Sparing.{any-err, stayed-spares}
 use Rattle.blk_cache.proofs.cache.Cache.write_some.Goals as goal
 
 -- It can't be measured.
@@ -67,3 +68,17 @@ returns-clause-unchanged g c = if_ok_weaker c.write_where_room.result (λ answer
 
 pub write_where_room-requires-clause-is_open : goal.write_where_room-requires-clause-is_open
 write_where_room-requires-clause-is_open g c image there = subst (λ (files : BlockFiles). IsOpen files image) (sym c.measure_rise.ensures.others.files) (c.requires.is_open image (ap (λ (t : Told). t.files) (sym c.measure_rise.ensures.reads.stays) ∙ there))
+
+-- It makes no step where it is refused.
+
+pub returns-in_err-rise-clause-spares : goal.returns-in_err-rise-clause-spares
+returns-in_err-rise-clause-spares g c names =
+    any-err c.from_residual.result _
+    (stayed-spares (HoldsState c.args.self.now) (g.F.Folder.told c.args.folder.now) (g.F.Folder.told c.measure_rise.new.folder) c.args.request.now.moment (to_sparse_write c.args.request.now.handle c.args.request.now.offset c.args.request.now.bytes.now) c.in_err-rise.ensures.reads.stays)
+
+pub returns-clause-spares : goal.returns-clause-spares
+returns-clause-spares g c names =
+    subst (λ (t : Told). OnErr c.write_where_room.result (SparesRefused (HoldsState c.args.self.now) t (g.F.Folder.told c.write_where_room.new.folder) c.args.request.now.moment (to_sparse_write c.args.request.now.handle c.args.request.now.offset c.args.request.now.bytes.now))) c.in_ok-rise.ensures.reads.stays
+    (on_err_weaker c.write_where_room.result (for-kept c.args.self.now c.measure_rise.new.self c.measure_rise.ensures.others (g.F.Folder.told c.measure_rise.new.folder) _)
+    (c.write_where_room.ensures.spares (asks-then c.args.self.now c.measure_rise.new.self c.measure_rise.ensures.others (g.F.Folder.told c.args.folder.now) (g.F.Folder.told c.measure_rise.new.folder) c.measure_rise.ensures.reads.stays
+    c.args.request.now.moment c.args.request.now.handle c.args.request.now.offset c.args.request.now.bytes.now c.args.target.now c.in_ok-rise.rise names c.in_ok-rise.ensures.rises)))

@@ -7,9 +7,11 @@ use Rattle.blk_cache.specs.CacheKeeping.{HoldsState}
 use Rattle.blk_cache.specs.SparseTargets.{NamesTarget}
 use Rattle.blk_cache.specs.Stepping.{SaysEvicted}
 use Rattle.blk_cache.proofs.CreateWhole.{on-ok}
-use Rattle.blk_cache.proofs.SparseEmpty.{empty-says}
+use Rattle.blk_cache.proofs.SparseEmpty.{empty-says, empty-spares}
 use Rattle.blk_cache.proofs.SparseNamed.{none-long}
 use Rattle.blk_cache.proofs.WriteWhole.{front-before, only-wrote}
+use Rattle.blk_cache.proofs.Sparing.{any-err}
+use Rattle.blk_cache.specs.CommandClauses.{SparesRefused}
 use Rattle.blk_cache.proofs.cache.Cache.write_target.Goals as goal
 
 -- There are no bytes.
@@ -38,3 +40,11 @@ returns-then-is_empty-clause-quiet g c = only-wrote c.use_target.result _ (Stays
 
 pub returns-then-is_empty-clause-untold : goal.returns-then-is_empty-clause-untold
 returns-then-is_empty-clause-untold g c names = c.use_target.ensures.untold c.args.request.now.handle c.args.request.now.offset (subst (λ (n : ℕ). NamesTarget c.args.self.now (g.F.Folder.told c.args.folder.now) c.args.request.now.moment c.args.request.now.handle c.args.request.now.offset n c.args.target.now) (ap length (none-long c.args.request.now.bytes.now (let e : length c.args.request.now.bytes.now ≡ 0 = search rules in e))) names)
+
+pub returns-then-is_empty-clause-spares : goal.returns-then-is_empty-clause-spares
+returns-then-is_empty-clause-spares g c names =
+    let none = none-long c.args.request.now.bytes.now (let e : length c.args.request.now.bytes.now ≡ 0 = search rules in e) in
+    any-err c.use_target.result _
+    (subst (λ (bytes : List ℕ). SparesRefused (HoldsState c.args.self.now) (g.F.Folder.told c.args.folder.now) (g.F.Folder.told c.use_target.new.folder) c.args.request.now.moment (to_sparse_write c.args.request.now.handle c.args.request.now.offset bytes)) (sym none)
+    (empty-spares c.args.self.now (g.F.Folder.told c.args.folder.now) (g.F.Folder.told c.use_target.new.folder) c.args.request.now.moment c.args.request.now.handle c.args.request.now.offset c.args.target.now
+    (subst (λ (n : ℕ). NamesTarget c.args.self.now (g.F.Folder.told c.args.folder.now) c.args.request.now.moment c.args.request.now.handle c.args.request.now.offset n c.args.target.now) (ap length none) names)))

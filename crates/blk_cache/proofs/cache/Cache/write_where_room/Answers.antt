@@ -4,8 +4,9 @@ use Rattle.blk_model.specs.declared.Refusal.TheVariants as refusal
 use Rattle.law_state.proofs.Stopping.{nothing-stops, refusals-done}
 use Rattle.blk_cache.specs.CacheKeeping.{HoldsState}
 use Rattle.blk_cache.proofs.Refusing.{says-kept}
-use Rattle.blk_cache.proofs.SparseWhole.{free-passes, full-refused}
+use Rattle.blk_cache.proofs.SparseWhole.{free-passes, full-refused, goes-on}
 use Rattle.blk_cache.proofs.WriteWhole.{front-before, refused-says}
+use Rattle.blk_cache.proofs.Sparing.{any-err, passed-spares}
 use Rattle.blk_cache.proofs.cache.Cache.write_where_room.Goals as goal
 
 -- There is no space.
@@ -40,3 +41,10 @@ returns-clause-front g c asks = c.write_with_room.ensures.front (free-passes c.a
 
 pub returns-clause-untold : goal.returns-clause-untold
 returns-clause-untold g c asks = c.write_with_room.ensures.untold (free-passes c.args.self.now (g.F.Folder.told c.args.folder.now) c.args.request.now.moment c.args.request.now.handle c.args.request.now.offset c.args.request.now.bytes.now c.args.target.now c.args.rise.now asks c.is_full.result c.is_full.ensures.full (let e : c.is_full.result ≡ false = search rules in e))
+
+pub returns-clause-spares : goal.returns-clause-spares
+returns-clause-spares g c asks =
+    any-err c.write_with_room.result _
+    (passed-spares (HoldsState c.args.self.now) (g.F.Folder.told c.args.folder.now) (g.F.Folder.told c.write_with_room.new.folder) c.args.request.now.moment (to_sparse_write c.args.request.now.handle c.args.request.now.offset c.args.request.now.bytes.now)
+    (goes-on c.args.self.now (g.F.Folder.told c.args.folder.now) c.args.request.now.moment c.args.request.now.handle c.args.request.now.offset c.args.request.now.bytes.now c.args.target.now c.args.rise.now
+    (free-passes c.args.self.now (g.F.Folder.told c.args.folder.now) c.args.request.now.moment c.args.request.now.handle c.args.request.now.offset c.args.request.now.bytes.now c.args.target.now c.args.rise.now asks c.is_full.result c.is_full.ensures.full (let e : c.is_full.result ≡ false = search rules in e))))
