@@ -65,7 +65,7 @@ opened_open limits start middle cache silent keeps = by_files start.files silent
 
     by_files : (files : Option Image) → (files ≡ None → middle.files ≡ None) → ForSome files (λ from. ForSome middle.files (KeepsState cache (opened_on limits from))) → ForSome middle.files (IsOpen cache.files)
     by_files None silent keeps image there = absurd (no_image (sym (silent refl) ∙ there))
-    by_files (Some from) silent keeps image there = kept-open cache (opened_on limits from) image (keeps from refl image there)
+    by_files (Some from) silent keeps image there = kept-open cache (opened_on limits from) image (keeps from refl image there).holds
 
 -- What an opening and then an end of it leave.
 module _ (limits : Bounds) (start middle : Told) (cache : Cache) (from : Image) (there : start.files ≡ Some from) (opened : PassesAny start middle (HoldsStill from))

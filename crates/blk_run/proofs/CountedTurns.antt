@@ -92,7 +92,7 @@ module _ (far : SoFar) (cache next : Cache) (notes notes_next left : ℕ) (told 
       ap (λ (a : Answer). evicted_by request a cache.items next.items) is ∙ ap (λ (n : ℕ). evicted_by request (answer_of made.reply) n next.items) before ∙ ap (evicted_by request (answer_of made.reply) (items (state_now far))) later ∙ sym told.0 in
       let same : with_answer answer (evicted_by request answer cache.items next.items) counts_old ≡ with_outcome made counts_old =
       ap (λ (a : Answer). with_answer a (evicted_by request answer cache.items next.items) counts_old) is ∙ ap (λ (n : ℕ). with_answer (answer_of made.reply) n counts_old) evicted in
-      let fewer : evicted_items made ≤ most_items = let a = told.1 in let b = at.kept.few in omega (arith, a, b) in
+      let fewer : evicted_items made ≤ most_items = let a = told.1 in let b = at.kept.holds.few in omega (arith, a, b) in
       let more : AreWithin (commands + 1) (with_outcome made counts_old) = within_more commands counts_old (answer_of made.reply) (evicted_items made) within fewer (read_few (state_now far) moment request asked) (refusal_few (refuses (answer_of made.reply))) in
       let long : AreLong (with_outcome made counts_old) = counted_long (commands + 1) (with_outcome made counts_old) (omega (arith, few)) more in
       let new : counts_new ≡ with_outcome made counts_old = exact (subst AreLong (sym same) long) ∙ same in

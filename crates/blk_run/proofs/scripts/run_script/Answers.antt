@@ -21,7 +21,7 @@ use Rattle.blk_run.proofs.scripts.run_script.Goals as goal
 pub play_script-requires : goal.play_script-requires
 play_script-requires g c = record {
   is_open = opened_at (g.F.Folder.told c.args.folder.now).files (g.F.Folder.told c.start.new.f) _ c.start.ensures.writes.silent
-      (λ from there image here. kept-open c.in-Ok.cache (open_state (found from) (bounds_of c.args.limits)) image (c.in-Ok.ensures.keeps from there image here));
+      (λ from there image here. kept-open c.in-Ok.cache (open_state (found from) (bounds_of c.args.limits)) image (c.in-Ok.ensures.keeps from there image here).holds);
 }
 
 pub returns-in-Ok-clause-script : goal.returns-in-Ok-clause-script

@@ -21,7 +21,7 @@ use Rattle.blk_run.proofs.sessions.session.Goals as goal
 pub play-requires-clause-is_open : goal.play-requires-clause-is_open
 play-requires-clause-is_open g c =
     opened_at (g.F.Folder.told c.args.folder.now).files (g.F.Folder.told c.start.new.f) _ c.start.ensures.writes.silent
-    (λ from there image here. kept-open c.in-Ok-start.cache (open_state (found from) (bounds_of c.args.limits)) image (c.in-Ok-start.ensures.keeps from there image here))
+    (λ from there image here. kept-open c.in-Ok-start.cache (open_state (found from) (bounds_of c.args.limits)) image (c.in-Ok-start.ensures.keeps from there image here).holds)
 
 pub returns-in-Ok-start-clause-session : goal.returns-in-Ok-start-clause-session
 returns-in-Ok-start-clause-session g c from there usable =
