@@ -20,7 +20,8 @@ use Rattle.blk_io.specs.declared.fault.Damage.{Damage}
 use Rattle.blk_io.specs.Faults.{damage_of}
 use Rattle.blk_cache.specs.declared.fault.OpenFault.{OpenFault}
 use Rattle.blk_cache.specs.declared.fault.OpenFault.TheVariants.{Damaged}
-use Rattle.blk_cache.specs.Opening.{EndsSession, IfOpenDamaged, opened_id}
+use Rattle.spec_run.specs.Opening.{opened_id}
+use Rattle.blk_cache.specs.Opening.{EndsSession, IfOpenDamaged}
 use Rattle.blk_cache.proofs.Ends.{kept-open}
 use Rattle.blk_disk.specs.Open.{IsOpen}
 use Rattle.blk_model.specs.State.{Bounds, State}
