@@ -137,6 +137,23 @@ if [ -w /dev/full ]; then
         done
     done
     is 'nothing is done then' "$before" "$(both "$room/tried" && both "$room/untried")"
+    # The other words don't try it.
+    make entries "$room/shown"
+    for words in list 'get a 0' 'get b 0' 'inspect list' verify 'gen 1 3'; do
+        # shellcheck disable=SC2086
+        timeout 60 "$program" "$room/shown" $words <"$room/input" >/dev/full 2>"$room/complained"
+        is "$words to an output that is full" '5 ' "$? $(cat "$room/complained")"
+    done
+    # A session flushes each reply, a refusal and a parse error too, so it ends with 5 at the first, and the lines after it are not done.
+    # (main flushes once more, where only a status 0 becomes 5: 1 would stay 1, but then nothing waits.)
+    make entries "$room/replied"
+    for line in 'open 0 b' fly; do
+        printf '%s\ncreate 1 c\nclose 1\n' "$line" >"$room/lines"
+        timeout 60 "$program" "$room/replied" session <"$room/lines" >/dev/full 2>"$room/complained"
+        is "a session that begins with '$line', to an output that is full" '5 ' "$? $(cat "$room/complained")"
+    done
+    run "$room/replied" list
+    is 'the lines after it are not done' $'0 main a 0 0 0\nend 1' "$status $said"
 else
     skip 'an output that is full' 'there is no /dev/full'
 fi
