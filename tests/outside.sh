@@ -344,7 +344,7 @@ for it in data_0:1000 data_1:100 data_2:3000 data_3:10000; do
     beside_swaps "${openings_of_each:-300}" "${it%:*}" 64000 put b 1
 done
 
-# One that only reads, and opens no external file.
+# One that only reads.
 : >"$room/lines"
 for it in index data_0 data_1; do
     beside_swaps "${openings_of_each:-300}" "$it" 64000 verify
