@@ -137,6 +137,18 @@ if [ -w /dev/full ]; then
         done
     done
     is 'nothing is done then' "$before" "$(both "$room/tried" && both "$room/untried")"
+    # What prints as it goes fails at its first text, a refusal or a fault among them: so the status is 5, and 1 no longer. That
+    # the last flush alone fails no test brings about, since nothing waits then.
+    make entries "$room/printed"
+    for words in list 'get a 0' 'get b 0' 'inspect list' verify 'gen 1 3'; do
+        # shellcheck disable=SC2086
+        timeout 60 "$program" "$room/printed" $words <"$room/input" >/dev/full 2>"$room/complained"
+        is "$words to an output that is full" '5 ' "$? $(cat "$room/complained")"
+    done
+    for line in 'open 0 none' 'nonsense'; do
+        printf '%s\n' "$line" | timeout 60 "$program" "$room/printed" session >/dev/full 2>"$room/complained"
+        is "a session that begins with \"$line\", to an output that is full" '5 ' "$? $(cat "$room/complained")"
+    done
 else
     skip 'an output that is full' 'there is no /dev/full'
 fi
