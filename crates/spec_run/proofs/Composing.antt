@@ -4,10 +4,10 @@ use Rattle.std.specs.Option.{option_map}
 use Rattle.std.proofs.lemmas.List.{append-nil, length-append}
 use Rattle.spec_image.specs.Image.{Image}
 use Rattle.spec_image.specs.Steps.{TrailStep, Note, applied, after}
-use Rattle.spec_image.specs.Told.{Told, Applies, Along, HasNoNote, Passes}
+use Rattle.spec_image.specs.Told.{Told, Applies, Along, HasNoNote, IsQuiet, Passes, is_quiet}
 use Rattle.spec_image.specs.Notes.{AlongFrom, notes_in}
 use Rattle.spec_image.proofs.Cuts.{after-append}
-use Rattle.spec_image.proofs.Runs.{grows_none, grows_then, until_last}
+use Rattle.spec_image.proofs.Runs.{grows_none, grows_then, only_here, only_there, until_last}
 use Rattle.spec_image.proofs.Quiet.{no-note}
 use Rattle.spec_image.proofs.NotesLemmas.{along_from-last, along_from-append, along_from-one, at_each_prefix, notes_in-append, are_true-append}
 use Rattle.spec_format.specs.BlockFiles.{IsWellFormed}
@@ -28,10 +28,10 @@ use Rattle.law_state.proofs.Stopping.{finished-along}
 use Rattle.spec_run.specs.Script.{is_refused}
 use Rattle.spec_run.specs.Run.{Stamped, outcome_in, state_after, state_then, state_at, command_after}
 use Rattle.spec_run.specs.Moments.{IsStopped, IsLeftAt, Completes, MayFollow}
-use Rattle.spec_run.specs.Opening.{IsInSessionOf, close_mark, has_closed, has_opened}
+use Rattle.spec_run.specs.Opening.{IsInSessionOf, close_mark, has_closed, has_opened, marks_closed}
 use Rattle.spec_run.specs.Progress.{BreaksOffIn, IsWholeRun, MakesCommand, NotesCommand, Progress, Stops, StopsAfter, StopsPast}
 use Rattle.spec_run.specs.Laws.{RunsGoOn, RunsMayStopInACommand, RunsMayStopBetween, RunsEnd}
-use Rattle.spec_run.proofs.StepFacts.{true_false, along_head, closed-last, head_same, nil_clash, quiet_first, quiet_later, quiet_true, opened_more, quiet_counts, not_complete, snoc_step, tail_same}
+use Rattle.spec_run.proofs.StepFacts.{true_false, along_head, closed-last, head_same, nil_clash, quiet_true, opened_more, quiet_counts, quiet_goes_on, still_going, not_complete, snoc_step, tail_same}
 use Rattle.spec_run.proofs.CommandStates.{state_after-one, state_here, next_here, state_next}
 
 -- What is found.
@@ -73,21 +73,25 @@ follows opened commands n made x count may before step split =
     subst (λ (m : ℕ). MayFollow opened commands m (command_after commands m) step) (sym here)
     (subst (MayFollow opened commands n (command_after commands n)) same.1 may)
 
+-- and the session has not ended before it
+follows_going : (made : List TrailStep) (x : TrailStep) → has_closed made ≡ false → (before : List TrailStep) (step : TrailStep) → made ++ x ∷ [] ≡ before ++ step ∷ [] → has_closed before ≡ false
+follows_going made x going before step split = ap has_closed (sym (snoc_step made before x step split).0) ∙ going
+
 -- a command's own note may follow
 may_note : (opened : State) (commands done more : List Stamped) (c : Stamped) → commands ≡ done ++ c ∷ more
     → MayFollow opened commands (length done) (command_after commands (length done)) (Note (length done + 1))
 may_note opened commands done more c e =
     subst (λ (o : Option Stamped). MayFollow opened commands (length done) o (Note (length done + 1))) (sym (next_here commands done (c ∷ more) e))
-    (λ refusal. refl)
+    (record { goes_on = refl; note = λ refusal. refl })
 
--- any step may follow in a command that isn't refused, and none is made in one that is
+-- any step that doesn't end the session may follow in a command that isn't refused, and none is made in one that is
 may_any : (opened : State) (commands done more : List Stamped) (c : Stamped) (t : List TrailStep) → commands ≡ done ++ c ∷ more
-    → (is_refused (outcome_in (state_after opened done) c) ≡ true → t ≡ []) → (t ≡ [] → ⊥) → (y : TrailStep)
+    → (is_refused (outcome_in (state_after opened done) c) ≡ true → t ≡ []) → (t ≡ [] → ⊥) → (y : TrailStep) → marks_closed y ≡ false
     → MayFollow opened commands (length done) (command_after commands (length done)) y
-may_any opened commands done more c t e spared some y =
+may_any opened commands done more c t e spared some y going =
     let here = state_here opened commands done (c ∷ more) e in
     subst (λ (o : Option Stamped). MayFollow opened commands (length done) o y) (sym (next_here commands done (c ∷ more) e))
-    (λ refusal. absurd (some (spared (ap (λ (s : State). is_refused (outcome_in s c)) (sym here) ∙ refusal))))
+    (record { goes_on = going; note = λ refusal. absurd (some (spared (ap (λ (s : State). is_refused (outcome_in s c)) (sym here) ∙ refusal))) })
 
 -- it is still the same session where its words are as before
 in_session_kept : (from start image : Image) → IsInSessionOf from start → KeepsSessionWords start image → IsInSessionOf from image
@@ -98,8 +102,9 @@ pub stopped_at_rest : (from : Image) (opened : State) (commands done more : List
     → has_opened steps ≡ true → notes_in steps ≡ length done → StandsFor image (state_after opened done) → IsInSessionOf from image
     → ((before : List TrailStep) (step : TrailStep) → steps ≡ before ++ step ∷ [] → has_opened before ≡ true
     → MayFollow opened commands (notes_in before) (command_after commands (notes_in before)) step)
+    → ((before : List TrailStep) (step : TrailStep) → steps ≡ before ++ step ∷ [] → has_opened before ≡ true → has_closed before ≡ false)
     → IsStopped from opened commands steps image
-stopped_at_rest from opened commands done more steps image e marked count stands inside may = record {
+stopped_at_rest from opened commands done more steps image e marked count stands inside may going = record {
   usable = inr stands.well_formed;
   making = λ unfinished. absurd (finished image stands.well_formed unfinished);
   left = record {
@@ -112,6 +117,7 @@ stopped_at_rest from opened commands done more steps image e marked count stands
   stands = λ before last split complete. subst (λ (s : State). StandsFor image s) (sym here) stands;
   session = λ marked going. inside;
   refused = may;
+  last = going;
 }
   where
     same : found image ≡ rest (state_after opened done)
@@ -123,9 +129,9 @@ stopped_at_rest from opened commands done more steps image e marked count stands
 -- after a step that completes nothing
 pub stopped_within : (from : Image) (opened : State) (commands : List Stamped) (n : ℕ) (made : List TrailStep) (x : TrailStep) (image : Image)
     → has_opened made ≡ true → notes_in made ≡ n → HasNoNote (x ∷ []) → IsWellFormed image → IsLeftAt opened commands n (command_after commands n) (found image)
-    → (has_closed (made ++ x ∷ []) ≡ false → IsInSessionOf from image) → MayFollow opened commands n (command_after commands n) x
+    → (has_closed (made ++ x ∷ []) ≡ false → IsInSessionOf from image) → MayFollow opened commands n (command_after commands n) x → has_closed made ≡ false
     → IsStopped from opened commands (made ++ x ∷ []) image
-stopped_within from opened commands n made x image marked count quiet well_formed left inside may = record {
+stopped_within from opened commands n made x image marked count quiet well_formed left inside may going = record {
   usable = inr well_formed;
   making = λ unfinished. absurd (finished image well_formed unfinished);
   left = record {
@@ -137,6 +143,7 @@ stopped_within from opened commands n made x image marked count quiet well_forme
   stands = λ before last split complete. absurd (never before last split complete);
   session = λ opens. inside;
   refused = λ before step split opens. follows opened commands n made x count may before step split;
+  last = λ before step split opens. follows_going made x going before step split;
 }
   where
     never : (before : List TrailStep) (last : TrailStep) → made ++ x ∷ [] ≡ before ++ last ∷ [] → Completes before last → ⊥
@@ -144,24 +151,30 @@ stopped_within from opened commands n made x image marked count quiet well_forme
         let same = snoc_step made before x last split in
         not_complete made x marked quiet (subst (λ (b : List TrailStep). Completes b x) (sym same.0) (subst (Completes before) (sym same.1) complete))
 
--- steps without a note once the opening has ended, which keep the words of the session, and may follow where there are any
+-- a step that a command may make is no note
+one_no_note : (x : TrailStep) → is_quiet x ≡ true → HasNoNote (x ∷ [])
+one_no_note x quiet = no-note (x ∷ []) (only_here (is_quiet x) quiet tt)
+
+-- steps that a command may make once the opening has ended, which keep the words of the session, and may follow where there are any
 pub quiet_along : (from : Image) (opened : State) (commands : List Stamped) (n : ℕ) (R : Image → Type 0)
     → ((image : Image) → R image → IsWellFormed image × IsLeftAt opened commands n (command_after commands n) (found image))
     → (start : Image) → IsInSessionOf from start
-    → (made : List TrailStep) (image : Image) (steps : List TrailStep) → has_opened made ≡ true → notes_in made ≡ n → HasNoNote steps
-    → ((steps ≡ [] → ⊥) → (y : TrailStep) → MayFollow opened commands n (command_after commands n) y) → Along (KeepsSessionWords start) image steps
+    → (made : List TrailStep) (image : Image) (steps : List TrailStep) → has_opened made ≡ true → has_closed made ≡ false → notes_in made ≡ n → IsQuiet steps
+    → ((steps ≡ [] → ⊥) → (y : TrailStep) → marks_closed y ≡ false → MayFollow opened commands n (command_after commands n) y) → Along (KeepsSessionWords start) image steps
     → IsStopped from opened commands made image → Along R image steps → AlongFrom (IsStopped from opened commands) made image steps
-quiet_along from opened commands n R gives start inside made image [] marked count quiet may same here all = here
-quiet_along from opened commands n R gives start inside made image (x ∷ steps) marked count quiet may same here all =
+quiet_along from opened commands n R gives start inside made image [] marked going count quiet may same here all = here
+quiet_along from opened commands n R gives start inside made image (x ∷ steps) marked going count quiet may same here all =
+    let q = only_there (is_quiet x) quiet in
+    let goes_on = quiet_goes_on x q.0 in
     let some : x ∷ steps ≡ [] → ⊥ = λ e. nil_clash (sym e) in
     let kept = along_head (KeepsSessionWords start) (applied x image) steps same.1 in
     let next = gives (applied x image) (along_head R (applied x image) steps all.1) in
-    let one = quiet_first x steps quiet in (
+    let one = one_no_note x q.0 in (
       here,
       quiet_along from opened commands n R gives start inside (made ++ x ∷ []) (applied x image) steps
-          (opened_more made (x ∷ []) marked) (quiet_counts made (x ∷ []) n count one) (quiet_later x steps quiet) (λ more. may some) same.1
+          (opened_more made (x ∷ []) marked) (closed-last made x ∙ goes_on) (quiet_counts made (x ∷ []) n count one) q.1 (λ more. may some) same.1
           (stopped_within from opened commands n made x (applied x image) marked count one next.0 next.1
-          (λ going. in_session_kept from start (applied x image) inside kept) (may some x)) all.1,
+          (λ still. in_session_kept from start (applied x image) inside kept) (may some x goes_on) going) all.1,
     )
 
 -- Calls.
@@ -239,6 +252,7 @@ one_more from opened done old mid new c there before makes =
       steps = s ++ t ++ note ∷ [];
       applies = subst (Applies old new) joined (grows_then before.applies made.applies);
       opens = opened_more (s ++ t) (note ∷ []) marked;
+      goes_on = closed-last (s ++ t) note;
       noted = noted;
       notes = are_true-append 0 (s ++ t) (note ∷ [])
           (are_true-append 0 s t before.notes (quiet_true (0 + notes_in s) t none))
@@ -250,7 +264,7 @@ one_more from opened done old mid new c there before makes =
           let first = before.along commands (c ∷ more) more_after in
           let P : List TrailStep → Image → Type 0 = IsStopped from opened commands in
           let second = quiet_along from opened commands (length done) (MayStopFinished (state_after opened done) c.moment c.request) (stopped_in_left opened commands done more c more_after)
-          middle inside s middle t before.opens before.noted none (may_any opened commands done more c t more_after lone.1) words
+          middle inside s middle t before.opens before.goes_on before.noted made.quiet (may_any opened commands done more c t more_after lone.1) words
           (along_from-last P [] from s first)
           (finished-along (state_after opened done) c.moment c.request middle t made.quiet (magic-of middle (before.stands middle at_middle).well_formed) (made.stops middle at_middle)) in
           let both = along_from-append P [] from s t first second in
@@ -260,7 +274,8 @@ one_more from opened done old mid new c there before makes =
           (stopped_at_rest from opened commands (done ++ c ∷ []) more (s ++ t ++ note ∷ []) (after t middle) e
           (opened_more (s ++ t) (note ∷ []) marked) noted rests inside_then
           (λ before_last step split opens.
-          follows opened commands (length done) (s ++ t) note count (may_note opened commands done more c more_after) before_last step split)));
+          follows opened commands (length done) (s ++ t) note count (may_note opened commands done more c more_after) before_last step split)
+          (λ before_last step split opens. follows_going (s ++ t) note (still_going s t before.goes_on made.quiet) before_last step split)));
     }
   where
     some_same : {x y : Image} → Some x ≡ Some y → x ≡ y
@@ -270,7 +285,7 @@ one_more from opened done old mid new c there before makes =
 pub stops_with : {from : Image} {opened : State} {commands done : List Stamped} {old mid new : Told} (more : List Stamped) (R : Image → Type 0) → old.files ≡ Some from
     → Progress from opened done old mid → (made : Passes mid new R) → commands ≡ done ++ more
     → ((image : Image) → R image → IsWellFormed image × IsLeftAt opened commands (length done) (command_after commands (length done)) (found image))
-    → ((made.steps ≡ [] → ⊥) → (y : TrailStep) → MayFollow opened commands (length done) (command_after commands (length done)) y)
+    → ((made.steps ≡ [] → ⊥) → (y : TrailStep) → marks_closed y ≡ false → MayFollow opened commands (length done) (command_after commands (length done)) y)
     → Stops from opened commands old new
 stops_with {from} {opened} {commands} {done} {old} {mid} {new} more R there before made e gives may =
     let s = before.steps in
@@ -280,7 +295,7 @@ stops_with {from} {opened} {commands} {done} {old} {mid} {new} more R there befo
     let P : List TrailStep → Image → Type 0 = IsStopped from opened commands in
     let first = before.along commands more e in
     let none = no-note t made.quiet in
-    let second = quiet_along from opened commands (length done) R gives middle (before.session middle at_middle) s middle t before.opens before.noted none may
+    let second = quiet_along from opened commands (length done) R gives middle (before.session middle at_middle) s middle t before.opens before.goes_on before.noted made.quiet may
     (quiet-words-kept t middle made.quiet) (along_from-last P [] from s first) (made.along middle at_middle) in
     let count = quiet_counts s t (length done) before.noted none in
     let all = ap (λ (l : List Stamped). length l) e ∙ length-append done more in
@@ -405,6 +420,7 @@ ended from opened commands old mid new there before part still = by_steps part.m
         (left_between opened commands commands [] (found (applied close_mark middle)) all stands.shows.valid (held.found_same ∙ same))
         (λ going. true_false (closed-last before.steps close_mark) going)
         (subst (λ (o : Option Stamped). MayFollow opened commands (length commands) o close_mark) (sym (next_here commands commands [] all)) refl)
+        before.goes_on
 
     none_left : (t left : List TrailStep) → [] ≡ t ++ left → t ≡ []
     none_left [] left e = refl

@@ -18,7 +18,7 @@ use Rattle.spec_run.specs.Run.{Stamped, state_after}
 use Rattle.spec_run.specs.Moments.{IsStopped, Completes}
 use Rattle.spec_run.specs.Opening.{IsInSessionOf, has_opened, open_mark}
 use Rattle.spec_run.specs.Laws.{RunsBegin, RunsMayStopInTheOpening}
-use Rattle.spec_run.proofs.StepFacts.{true_false, along_head, quiet_first, quiet_later, quiet_notes, quiet_true, opened-append, none_before, not_marked, no_last, snoc_step}
+use Rattle.spec_run.proofs.StepFacts.{true_false, along_head, closed-last, quiet_first, quiet_later, quiet_notes, quiet_true, opened-append, none_before, not_marked, no_last, snoc_step}
 use Rattle.spec_run.proofs.Composing.{finished, stays, stopped_at_rest, some_after}
 
 -- a folder that holds what one held that a session may be opened on is uninitialized only where that was
@@ -41,6 +41,7 @@ stopped_before from opened commands steps image usable none unnoted incomplete s
   stands = λ before last split complete. absurd (incomplete before last split complete);
   session = λ marked. true_false marked none;
   refused = λ before last split marked. true_false marked (none_before before (last ∷ []) (ap has_opened (sym split) ∙ none));
+  last = λ before last split marked. true_false marked (none_before before (last ∷ []) (ap has_opened (sym split) ∙ none));
 }
 
 -- before the first step
@@ -100,6 +101,7 @@ begun from opened old new there usable opens =
       steps = all;
       applies = opens.applies;
       opens = marked;
+      goes_on = closed-last s open_mark;
       noted = count;
       notes = are_true-append 0 s (open_mark ∷ []) (quiet_true 0 s opens.unnoted) tt;
       stands = λ other is. subst (λ (i : Image). StandsFor i opened) (some_same (sym at_end ∙ is)) stands;
@@ -112,6 +114,7 @@ begun from opened old new there usable opens =
           along_from-one P [] from s open_mark first
           (subst (P all) (after-append s (open_mark ∷ []) from)
           (stopped_at_rest from opened commands [] more all image e marked count stands inside
+          (λ before step split opened_before. true_false opened_before (ap has_opened (sym (snoc_step s before open_mark step split).0) ∙ opens.unmarked))
           (λ before step split opened_before. true_false opened_before (ap has_opened (sym (snoc_step s before open_mark step split).0) ∙ opens.unmarked))));
     }
 

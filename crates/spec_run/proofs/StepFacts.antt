@@ -1,11 +1,17 @@
 -- Steps without a note, steps that open the session, and the last of some steps.
-use Rattle.std.proofs.Common.{ℕ, ◌≡◌, Bool, true, false, ◌||◌, List, [], ◌∷◌, ◌++◌, refl, sym, ◌∙◌, ap, arith}
+use Rattle.std.proofs.Common.{ℕ, ◌+◌, ◌≡◌, Bool, true, false, ◌&&◌, ◌||◌, List, [], ◌∷◌, ◌++◌, length, refl, sym, ◌∙◌, ap, arith, append_assoc}
+use Rattle.std.specs.Prelude.{◌==◌, nat_le}
+use Rattle.std.specs.Str.{bytes_eq}
+use Rattle.std.proofs.lemmas.Bool.Decides.{nat_tests}
+use Rattle.std.proofs.lemmas.List.{append-nil}
 use Rattle.std.proofs.lemmas.List.Folds.{list_any-append}
-use Rattle.spec_image.specs.Image.{Image}
+use Rattle.spec_image.specs.Bytes.{word_bytes}
+use Rattle.spec_image.specs.Image.{Image, Index, Block, External}
 use Rattle.spec_image.specs.Steps.{TrailStep, Word, SetLength, Delete, Note}
-use Rattle.spec_image.specs.Told.{Along, HasNoNote}
+use Rattle.spec_image.specs.Told.{Along, HasNoNote, IsQuiet, is_quiet}
 use Rattle.spec_image.specs.Notes.{AreTrue, notes_in}
 use Rattle.spec_image.proofs.NotesLemmas.{notes_in-append}
+use Rattle.spec_image.proofs.Runs.{only_there}
 use Rattle.spec_run.specs.Opening.{has_closed, has_opened, marks_closed, marks_open}
 use Rattle.spec_run.specs.Moments.{Completes}
 
@@ -66,6 +72,26 @@ pub closed-last : (made : List TrailStep) (x : TrailStep) → has_closed (made +
 closed-last [] x = refl
 closed-last (y ∷ []) x = refl
 closed-last (y ∷ z ∷ made) x = closed-last (z ∷ made) x
+
+-- a write that spares the words of the session doesn't begin at place 32
+spares_crash : (at n : ℕ) → ((nat_le 8 at && nat_le (at + n) 20) || nat_le 36 at) ≡ true → (at == 32) ≡ false
+spares_crash at n spares = grind (arith, nat_tests)
+
+-- a step that a command may make doesn't end the session
+pub quiet_goes_on : (x : TrailStep) → is_quiet x ≡ true → marks_closed x ≡ false
+quiet_goes_on (Word Index at bytes) quiet = ap (λ (b : Bool). b && bytes_eq bytes (word_bytes 0)) (spares_crash at (length bytes) quiet)
+quiet_goes_on (Word (Block n) at bytes) quiet = refl
+quiet_goes_on (Word (External n) at bytes) quiet = refl
+quiet_goes_on (SetLength f n) quiet = refl
+quiet_goes_on (Delete f) quiet = refl
+quiet_goes_on (Note n) quiet = refl
+
+-- after such steps the session has not ended
+pub still_going : (made s : List TrailStep) → has_closed made ≡ false → IsQuiet s → has_closed (made ++ s) ≡ false
+still_going made [] going quiet = ap has_closed (append-nil made) ∙ going
+still_going made (x ∷ s) going quiet =
+    let q = only_there (is_quiet x) quiet in
+    ap has_closed (sym (append_assoc made (x ∷ []) s)) ∙ still_going (made ++ x ∷ []) s (closed-last made x ∙ quiet_goes_on x q.0) q.1
 
 -- a step that is no note completes nothing once the opening has ended
 pub not_complete : (made : List TrailStep) (x : TrailStep) → has_opened made ≡ true → HasNoNote (x ∷ []) → Completes made x → ⊥

@@ -226,6 +226,20 @@ idle_step image opened stops = clash ((stops (open_mark ∷ SetLength Index 0 �
     clash : SetLength Index 0 ≡ close_mark → ⊥
     clash c = cc
 
+-- a session that ends before its last command
+early_end : (image : Image) (opened : State) (command : Stamped) → AtEachPrefix (IsStopped image opened (command ∷ [])) image (open_mark ∷ close_mark ∷ []) → ⊥
+early_end image opened command stops = clash ((stops (open_mark ∷ close_mark ∷ []) [] refl).refused (open_mark ∷ []) close_mark refl refl).goes_on
+  where
+    clash : true ≡ false → ⊥
+    clash c = cc
+
+-- a session that ends twice
+second_end : (image : Image) (opened : State) → AtEachPrefix (IsStopped image opened []) image (open_mark ∷ close_mark ∷ close_mark ∷ []) → ⊥
+second_end image opened stops = clash ((stops (open_mark ∷ close_mark ∷ close_mark ∷ []) [] refl).last (open_mark ∷ close_mark ∷ []) close_mark refl refl)
+  where
+    clash : true ≡ false → ⊥
+    clash c = cc
+
 -- a session that has another number after the mark
 other_number : (image : Image) (opened : State) → AtEachPrefix (IsStopped image opened []) image (open_mark ∷ [])
     → (this_id_of (byte (after (open_mark ∷ []) image) Index) ≡ opened_id image → ⊥) → ⊥

@@ -1,5 +1,5 @@
 -- What a crash leaves after some steps of a call that opens a folder and then makes commands in turn.
-use Rattle.std.specs.Prelude.{ℕ, ◌≡◌, ◌+◌, true, false, List, [], ◌∷◌, ◌++◌}
+use Rattle.std.specs.Prelude.{ℕ, ◌≡◌, ◌+◌, Bool, true, false, List, [], ◌∷◌, ◌++◌}
 use Rattle.std.specs.declared.option.Option.{Option}
 use Rattle.std.specs.declared.option.Option.TheVariants.{None, Some}
 use Rattle.spec_image.specs.Image.{Image}
@@ -15,7 +15,7 @@ use Rattle.spec_folder.specs.Found.{found}
 use Rattle.spec_folder.specs.StandsFor.{StandsFor}
 use Rattle.spec_run.specs.Script.{is_refused}
 use Rattle.spec_run.specs.Run.{Stamped, outcome_in, state_at, command_after}
-use Rattle.spec_run.specs.Opening.{IsInSessionOf, close_mark, has_closed, has_opened, marks_open}
+use Rattle.spec_run.specs.Opening.{IsInSessionOf, close_mark, has_closed, has_opened, marks_closed, marks_open}
 
 -- a step, after the steps before it, is a note, or the write that ends the opening: after it the folder represents a state
 abbrev pub Completes : List TrailStep → TrailStep → Type 0
@@ -29,10 +29,15 @@ abbrev pub IsLeftAt : State → List Stamped → ℕ → Option Stamped → List
 IsLeftAt opened commands n None rows = rows ≡ rest (state_at opened commands n)
 IsLeftAt opened commands n (Some next) rows = StopOutcome (state_at opened commands n) next.moment next.request (state_at opened commands (n + 1)) rows
 
--- which step may follow where n commands are done: that of the next one, its note where it is refused; and where there is none, the step that ends the session
+-- a step may be one of the command after n that are done: it doesn't end the session, and where the command is refused it is its note
+pub record IsOfCommand (refused : Bool) (n : ℕ) (step : TrailStep) : Type 0 where
+  pub goes_on : marks_closed step ≡ false
+  pub note : refused ≡ true → step ≡ Note (n + 1)
+
+-- which step may follow where n commands are done: one of the next command; and where there is none, the step that ends the session
 abbrev pub MayFollow : State → List Stamped → ℕ → Option Stamped → TrailStep → Type 0
 MayFollow opened commands n None step = step ≡ close_mark
-MayFollow opened commands n (Some next) step = is_refused (outcome_in (state_at opened commands n) next) ≡ true → step ≡ Note (n + 1)
+MayFollow opened commands n (Some next) step = IsOfCommand (is_refused (outcome_in (state_at opened commands n) next)) n step
 
 -- what may be recovered after a crash after these steps, where commands are made in turn from the state that was opened on what was found
 pub record IsLeft (found : List Row) (opened : State) (commands : List Stamped) (steps : List TrailStep) (rows : List Row) : Type 0 where
@@ -57,6 +62,8 @@ pub record IsStopped (from : Image) (opened : State) (commands : List Stamped) (
   -- once the opening has ended, and until the step that ends the session, the crash word is 1 and the number of the session is that of the opening
   pub session : has_opened steps ≡ true → has_closed steps ≡ false → IsInSessionOf from image
   -- a step once the opening has ended is of the next command, and its note where that is refused; where there is none it ends the session: so a command that is
-  -- refused makes no step but its note, and a line that is no command has none of its own
+  -- refused makes no step but its note, a line that is no command has none of its own, and no command ends the session
   pub refused : (before : List TrailStep) (step : TrailStep) → steps ≡ before ++ step ∷ [] → has_opened before ≡ true
       → MayFollow opened commands (notes_in before) (command_after commands (notes_in before)) step
+  -- the step that ends the session is the last
+  pub last : (before : List TrailStep) (step : TrailStep) → steps ≡ before ++ step ∷ [] → has_opened before ≡ true → has_closed before ≡ false

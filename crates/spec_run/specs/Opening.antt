@@ -34,7 +34,7 @@ marks_closed (SetLength file length) = false
 marks_closed (Delete file) = false
 marks_closed (Note number) = false
 
--- whether the session has ended: the last step is one that ends it
+-- whether the session has ended: the last step is one that ends it; none follows that (`IsStopped.last`)
 abbrev pub has_closed : List TrailStep → Bool
 has_closed [] = false
 has_closed (step ∷ []) = marks_closed step

@@ -1,5 +1,5 @@
 -- How far a run has come, and that its steps so far leave what they may.
-use Rattle.std.specs.Prelude.{ℕ, ◌≡◌, ◌≤◌, ◌+◌, ◌⊎◌, List, [], ◌∷◌, ◌++◌, length, true}
+use Rattle.std.specs.Prelude.{ℕ, ◌≡◌, ◌≤◌, ◌+◌, ◌⊎◌, List, [], ◌∷◌, ◌++◌, length, true, false}
 use Rattle.std.specs.Option.{ForSome}
 use Rattle.spec_image.specs.Image.{Image}
 use Rattle.spec_image.specs.Steps.{TrailStep, Note}
@@ -13,7 +13,7 @@ use Rattle.spec_folder.specs.StandsFor.{StandsFor}
 use Rattle.spec_run.specs.Script.{is_refused}
 use Rattle.spec_run.specs.Run.{Stamped, outcome_in, state_after, state_then}
 use Rattle.spec_run.specs.Moments.{IsStopped}
-use Rattle.spec_run.specs.Opening.{IsInSessionOf, has_opened}
+use Rattle.spec_run.specs.Opening.{IsInSessionOf, has_closed, has_opened}
 
 -- the steps of a call that began with an image, where commands are made in turn: after each prefix of them the folder is as a crash may leave it, and the notes
 -- are true and no more than the commands
@@ -42,11 +42,12 @@ pub record IsWholeRun (from : Image) (opened : State) (commands : List Stamped) 
   pub holds : ForSome new.files (λ image. found image ≡ rest (state_after opened commands))
 
 -- since a call began with an image the folder was opened and these commands are done: whatever commands follow, after each prefix of the steps the folder is as
--- a crash may leave it, and now it represents the state after the commands, in the session that was opened
+-- a crash may leave it, and now it represents the state after the commands, in the session that was opened and has not ended
 pub record Progress (from : Image) (opened : State) (done : List Stamped) (old new : Told) : Type 0 where
   pub steps : List TrailStep
   pub applies : Applies old new steps
   pub opens : has_opened steps ≡ true
+  pub goes_on : has_closed steps ≡ false
   pub noted : notes_in steps ≡ length done
   pub notes : AreTrue 0 steps
   pub stands : ForSome new.files (λ image. StandsFor image (state_after opened done))
