@@ -21,7 +21,7 @@ use Rattle.spec_run.specs.Run.{Stamped, Turn, clock_after, text_of}
 use Rattle.spec_run.proofs.CommandStates.{state_after-one}
 use Rattle.spec_run.proofs.Composing.{one_more, some_after, stopped_noted, stopped_part}
 use Rattle.spec_run.proofs.InTurn.{note_exact}
-use Rattle.spec_run.proofs.Replies.{no_less_one, no_more_evicted, no_more_whole}
+use Rattle.spec_run.proofs.Replies.{no_less_one, no_more_early, no_more_whole}
 use Rattle.spec_run.proofs.StepFacts.{along_head, true_false}
 use Rattle.blk_cache.specs.declared.fault.StepFault.{StepFault}
 use Rattle.blk_cache.specs.declared.fault.StepFault.TheVariants as fault
@@ -152,7 +152,7 @@ module _ (far : SoFar) (moment : ℕ) (request : Request) (keeps_old keeps : Sta
         few = omega arith;
         stops = λ more. stopped_noted far.from far.opened far.done more far.start old new command at.began at.progress (subst (λ (n : ℕ). NotesCommand old new command n (state_now far)) number made);
         printed = text_part;
-        no_more = no_more_whole (turn ∷ []) (state_now far) 1 w_old w_new (omega arith) text_part;
+        no_more = no_more_whole (turn ∷ []) 1 w_old w_new (omega arith) text_part;
         no_less = no_less_one turn command 1 w_old w_new (text_of (turn ∷ [])) refl (omega arith) text_part;
       }
 
@@ -163,7 +163,7 @@ module _ (far : SoFar) (moment : ℕ) (request : Request) (keeps_old keeps : Sta
         few = omega arith;
         stops = λ more. subst (λ (n : ℕ). StopsAfter far.from far.opened (far.done ++ command ∷ more) n far.start new) none_more (stopped_part far.from far.opened far.done more far.start old new command at.began at.progress made);
         printed = text_part;
-        no_more = no_more_evicted turn (state_now far) 0 w_old w_new says.front
+        no_more = no_more_early turn 0 w_old w_new says.front
             ((says.rest ++ reply_text (step (state_now far) moment request).reply, ap (λ (l : List ℕ). l ++ reply_text (step (state_now far) moment request).reply) says.split ∙ append_assoc says.front says.rest (reply_text (step (state_now far) moment request).reply)), (says.rest, says.split)) says.written;
         no_less = no_less_one turn command 0 w_old w_new (text_of (turn ∷ [])) refl (omega arith) text_part;
       }

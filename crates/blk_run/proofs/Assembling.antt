@@ -221,7 +221,7 @@ module _ (from : Image) (limits : Bounds) (readings : Readings) (old : Outside) 
         → StopsByNotes from (run_with all) sink old new
     stops_printed all sink new printed past = record {
       stops = past.stops;
-      no_more = no_more_whole all opened (notes_in past.stops.steps) old.written new.written past.count (appends_whole old.written new.written (text_of all) printed);
+      no_more = no_more_whole all (notes_in past.stops.steps) old.written new.written past.count (appends_whole old.written new.written (text_of all) printed);
       no_less = λ level. inr printed;
     }
 
@@ -230,7 +230,7 @@ module _ (from : Image) (limits : Bounds) (readings : Readings) (old : Outside) 
         → StopsByNotes from (run_with all) sink old new
     stops_unprinted all sink new rose printed past = record {
       stops = past.stops;
-      no_more = no_more_whole all opened (notes_in past.stops.steps) old.written new.written past.count printed;
+      no_more = no_more_whole all (notes_in past.stops.steps) old.written new.written past.count printed;
       no_less = λ level. absurd (level rose);
     }
 
@@ -244,12 +244,12 @@ module _ (from : Image) (limits : Bounds) (readings : Readings) (old : Outside) 
         let here : StopsAfter from opened (commands_of made ++ more.0) stopped.noted old.folder mid.folder = subst (λ (n : ℕ). StopsAfter from opened (commands_of made ++ more.0) n old.folder mid.folder) none_before (stopped.stops more.0) in
         let stops : StopsAfter from opened (commands (run_with all)) stopped.noted old.folder new.folder =
         subst (λ (l : List Stamped). StopsAfter from opened l stopped.noted old.folder new.folder) (sym more.1) (subst (λ (t : Told). StopsAfter from opened (commands_of made ++ more.0) stopped.noted old.folder t) same here) in
-        let no_more : PrintsNoMore made opened stopped.noted old.written new.written = subst (PrintsNoMore made opened stopped.noted old.written) (sym since) stopped.no_more in
+        let no_more : PrintsNoMore made stopped.noted old.written new.written = subst (PrintsNoMore made stopped.noted old.written) (sym since) stopped.no_more in
         let no_less : PrintsBeforeLast made stopped.noted old.written new.written = subst (PrintsBeforeLast made stopped.noted old.written) (sym since) stopped.no_less in
         record {
           stops = stops.stops;
-          no_more = subst (λ (n : ℕ). PrintsNoMore all opened n old.written new.written) (sym stops.count)
-              (subst (λ (l : List Turn). PrintsNoMore l opened stopped.noted old.written new.written) (sym begin) (no_more_longer made later opened stopped.noted old.written new.written no_more));
+          no_more = subst (λ (n : ℕ). PrintsNoMore all n old.written new.written) (sym stops.count)
+              (subst (λ (l : List Turn). PrintsNoMore l stopped.noted old.written new.written) (sym begin) (no_more_longer made later stopped.noted old.written new.written no_more));
           no_less = λ level. inl (subst (λ (n : ℕ). PrintsBeforeLast all n old.written new.written) (sym stops.count)
               (subst (λ (l : List Turn). PrintsBeforeLast l stopped.noted old.written new.written) (sym begin) (no_less_longer made later stopped.noted old.written new.written no_less)));
         }

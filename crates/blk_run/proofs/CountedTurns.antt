@@ -49,7 +49,7 @@ hidden_plays (Err fault.Device) far command keeps notes left told now c_old c_ne
       few = few;
       stops = p.stops;
       printed = part;
-      no_more = no_more_unshown (hidden_turn far command) (state_now far) p.noted w (printed_none w);
+      no_more = no_more_unshown (hidden_turn far command) p.noted w (printed_none w);
       no_less = no_less_one (hidden_turn far command) command p.noted w w [] refl few part;
     }
 hidden_plays (Err (fault.Damaged damage)) far command keeps notes left told now c_old c_new p none w refused = p

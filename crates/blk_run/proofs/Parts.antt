@@ -11,12 +11,10 @@ use Rattle.blk_io.specs.Streams.{Appends, Readings}
 use Rattle.blk_model.specs.State.{State}
 use Rattle.spec_run.specs.Run.{clock_after, commands_of, readings_of, refuse, Stamped, state_after, text_of, Turn}
 use Rattle.spec_run.specs.Progress.{StopsAfter}
-use Rattle.spec_run.specs.Replies.{PrintsNoMore}
 use Rattle.blk_cache.specs.declared.fault.StepFault.{StepFault}
 use Rattle.blk_cache.specs.declared.fault.StepFault.TheVariants as fault
 use Rattle.blk_run.specs.Playing.{SoFar, StandsAt, Around, AreMade, AreMadeTo, AreStopped, Plays, PlaysPart, state_now, with_more}
 use Rattle.blk_run.proofs.Printed.{then_more, then_part, part_of, printed_none}
-use Rattle.spec_run.proofs.CommandStates.{state_after-append}
 use Rattle.spec_run.proofs.Replies.{no_less_longer, no_less_then, no_more_longer, no_more_then}
 use Rattle.spec_run.proofs.Turns.{commands_of-append, readings_of-append, refuse-append, text_of-append}
 use Rattle.blk_run.proofs.RunLaws.{or_assoc, or_none, read_twice}
@@ -82,9 +80,8 @@ module _ (far : SoFar) (first second : List Turn) (old mid new : Around) (keeps_
         (append_assoc far.done (commands_of first) (commands_of second ++ more)
         ∙ ap (λ (l : List Stamped). far.done ++ l) (sym (append_assoc (commands_of first) (commands_of second) more) ∙ ap (λ (l : List Stamped). l ++ more) (sym (commands_of-append first second)))) (stopped.stops more));
     printed = subst (Appends old.written new.written) (sym (text_of-append first second)) (then_part (text_of first) (text_of second) old.written mid.written new.written before.printed stopped.printed);
-    no_more = no_more_then first second (state_now far) stopped.noted old.written mid.written new.written before.printed
-        (subst (λ (s : State). PrintsNoMore second s stopped.noted mid.written new.written) (state_after-append far.opened far.done (commands_of first)) stopped.no_more);
-    no_less = no_less_then first second (state_now far) stopped.noted old.written mid.written new.written before.printed stopped.no_less;
+    no_more = no_more_then first second stopped.noted old.written mid.written new.written before.printed stopped.no_more;
+    no_less = no_less_then first second stopped.noted old.written mid.written new.written before.printed stopped.no_less;
   }
     where
       commands_more : length (commands_of (first ++ second)) ≡ length (commands_of first) + length (commands_of second)
@@ -118,7 +115,7 @@ module _ (far : SoFar) (first second : List Turn) (old new : Around) (keeps : St
     stops = λ more. subst (λ (l : List Stamped). StopsAfter far.from far.opened (far.done ++ l) (length far.done + stopped.noted) far.start new.folder)
         (sym (append_assoc (commands_of first) (commands_of second) more) ∙ ap (λ (l : List Stamped). l ++ more) (sym (commands_of-append first second))) (stopped.stops (commands_of second ++ more));
     printed = subst (Appends old.written new.written) (sym (text_of-append first second)) (part_of (text_of first) (text_of second) old.written new.written stopped.printed);
-    no_more = no_more_longer first second (state_now far) stopped.noted old.written new.written stopped.no_more;
+    no_more = no_more_longer first second stopped.noted old.written new.written stopped.no_more;
     no_less = no_less_longer first second stopped.noted old.written new.written stopped.no_less;
   }
     where

@@ -173,7 +173,7 @@ module _ (key : List ℕ) (stream : ℕ) (bytes : List ℕ) (far : SoFar) (keeps
             few = few;
             stops = p.stops;
             printed = part;
-            no_more = no_more_unshown turn (state_now far) p.noted w (printed_none w);
+            no_more = no_more_unshown turn p.noted w (printed_none w);
             no_less = no_less_one turn (opened_by key asked.moment) p.noted w w (text_of (turn ∷ [])) refl few part;
           }
       by_fault (fault.Damaged damage) p none = absurd p

@@ -82,7 +82,7 @@ pub record AreStopped (made : List Turn) (far : SoFar) (old new : Around) : Type
   pub few : noted ≤ length (commands_of made)
   pub stops : (more : List Stamped) → StopsAfter far.from far.opened (far.done ++ (commands_of made ++ more)) (length far.done + noted) far.start new.folder
   pub printed : Appends old.written new.written (text_of made)
-  pub no_more : PrintsNoMore made (state_now far) noted old.written new.written
+  pub no_more : PrintsNoMore made noted old.written new.written
   pub no_less : PrintsBeforeLast made noted old.written new.written
 
 -- the outcome of iterations by the answer: all, up to a text that wasn't printed, or up to an I/O error; an observable folder reports no failed check

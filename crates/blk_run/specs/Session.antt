@@ -104,7 +104,7 @@ pub record IsEnded (run : Run) (old new : Outside) : Type 0 where
 -- the output failed, which `sink` says, all texts before that of the last noted command were printed
 pub record StopsByNotes (from : Image) (run : Run) (sink : Type 0) (old new : Outside) : Type 0 where
   pub stops : Stops from run.opened (commands run) old.folder new.folder
-  pub no_more : PrintsNoMore run.turns run.opened (notes_in stops.steps) old.written new.written
+  pub no_more : PrintsNoMore run.turns (notes_in stops.steps) old.written new.written
   pub no_less : (sink → ⊥) → PrintsNoLess run.turns (notes_in stops.steps) old.written new.written
 
 -- at an I/O error the folder is as a crash during the run may leave it, and what was printed goes by the notes; otherwise the run is whole

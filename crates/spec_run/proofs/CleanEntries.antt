@@ -1,5 +1,5 @@
 -- Clean entries that commands let be stay clean, and are found.
-use Rattle.std.proofs.Common.{ℕ, zero, suc, ◌+◌, ◌-◌, ◌≤◌, ◌≡◌, ◌==◌, ◌⊎◌, ⊎_elim, Bool, true, false, not, ◌&&◌, ◌||◌, cond, List, [], ◌∷◌, ◌++◌, length, take, drop, get_or, set, Option, None, Some, refl, sym, ◌∙◌, ap, subst, arith}
+use Rattle.std.proofs.Common.{ℕ, zero, suc, ◌+◌, ◌-◌, ◌≤◌, ◌≡◌, ◌==◌, ⊎_elim, Bool, true, false, not, ◌&&◌, ◌||◌, cond, List, [], ◌∷◌, ◌++◌, length, take, drop, get_or, set, Option, None, Some, refl, sym, ◌∙◌, ap, subst, arith}
 use Rattle.std.specs.List.{Contains, filter}
 use Rattle.std.specs.Option.{option_and_then}
 use Rattle.std.specs.Prelude.{unwrap_or}
@@ -386,7 +386,7 @@ module _ (from : Image) (opened : State) (all : List Stamped) (steps : List Trai
 pub answered_found : AnsweredEntriesAreFound
 answered_found from turns before opened more steps written printed command each prints answered item row since =
     entry_found from opened (commands_of turns ++ more) steps (length (commands_of before) + 1) item row each (omega arith)
-    (answered_noted turns before opened (notes_in steps) written printed command prints answered) since.entry since.later
+    (answered_noted turns before (notes_in steps) written printed command prints answered) since.entry since.later
 
 set_here : (slots : List (Option Object)) (t : ℕ) (old : Object) (new : Option Object) → get_or slots t None ≡ Some old → get_or (set slots t new) t None ≡ new
 set_here [] t old new here = cc

@@ -15,4 +15,5 @@ pub mod WholeEntries
 pub mod ValidStates
 pub mod FoundExamples
 pub mod Replies
+pub mod EarlyTexts
 pub mod CleanEntries

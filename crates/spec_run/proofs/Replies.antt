@@ -1,14 +1,12 @@
 -- What was printed, by how many commands are noted.
-use Rattle.std.proofs.Common.{ℕ, ◌+◌, ◌<◌, ◌≤◌, ◌≡◌, ◌⊎◌, inl, inr, List, [], ◌∷◌, ◌++◌, length, Option, Some, None, refl, sym, ◌∙◌, ap, subst, arith, append_assoc}
+use Rattle.std.proofs.Common.{ℕ, ◌+◌, ◌≤◌, ◌≡◌, ◌⊎◌, inl, inr, List, [], ◌∷◌, ◌++◌, length, Option, Some, None, refl, sym, ◌∙◌, ap, subst, arith, append_assoc}
 use Rattle.std.specs.List.{cons_option}
 use Rattle.std.specs.Option.{option_map}
 use Rattle.std.proofs.lemmas.List.{append-nil, length-append}
 use Rattle.blk_io.specs.Streams.{Appends}
-use Rattle.blk_model.specs.State.{State}
-use Rattle.spec_run.specs.Laws.{AnsweredCommandsAreDone, AnsweredCommandsAreNoted, IsReplyOut}
-use Rattle.spec_run.specs.Replies.{Begins, IsEvictedNext, PrintsBeforeLast, PrintsNoMore, evictions_of}
-use Rattle.spec_run.specs.Run.{Stamped, Turn, commands_of, state_after, text_of}
-use Rattle.spec_run.proofs.CommandStates.{state_after-append}
+use Rattle.spec_run.specs.Laws.{AnsweredCommandsAreDone, AnsweredCommandsAreNoted}
+use Rattle.spec_run.specs.Replies.{Begins, IsEarlyNext, PrintsBeforeLast, PrintsNoMore}
+use Rattle.spec_run.specs.Run.{Stamped, Turn, commands_of, text_of}
 use Rattle.spec_run.proofs.Turns.{commands_of-append, text_of-append}
 
 -- Texts.
@@ -32,19 +30,19 @@ whole_appends text old new printed = record { front = text; rest = []; split = r
 
 -- Iterations that would follow.
 
-evicted_longer : (state : State) (behind more : List Turn) (front : List ℕ) → IsEvictedNext state behind front → IsEvictedNext state (behind ++ more) front
-evicted_longer state [] [] front none = none
-evicted_longer state [] (turn ∷ more) front none = ((turn.text, ap (λ (l : List ℕ). l ++ turn.text) (sym none)), (evictions_of state turn.command, ap (λ (l : List ℕ). l ++ evictions_of state turn.command) (sym none)))
-evicted_longer state (turn ∷ behind) more front evicted = evicted
+early_longer : (behind more : List Turn) (front : List ℕ) → IsEarlyNext behind front → IsEarlyNext (behind ++ more) front
+early_longer [] [] front none = none
+early_longer [] (turn ∷ more) front none = ((turn.text, ap (λ (l : List ℕ). l ++ turn.text) (sym none)), (turn.early, ap (λ (l : List ℕ). l ++ turn.early) (sym none)))
+early_longer (turn ∷ behind) more front next = next
 
-pub no_more_longer : (turns more : List Turn) (state : State) (noted : ℕ) (old new : Option (List ℕ)) → PrintsNoMore turns state noted old new → PrintsNoMore (turns ++ more) state noted old new
-no_more_longer turns more state noted old new prints = record {
+pub no_more_longer : (turns more : List Turn) (noted : ℕ) (old new : Option (List ℕ)) → PrintsNoMore turns noted old new → PrintsNoMore (turns ++ more) noted old new
+no_more_longer turns more noted old new prints = record {
   shown = prints.shown;
   behind = prints.behind ++ more;
   split = ap (λ (l : List Turn). l ++ more) prints.split ∙ append_assoc prints.shown prints.behind more;
   are_noted = prints.are_noted;
   front = prints.front;
-  evicted = evicted_longer (state_after state (commands_of prints.shown)) prints.behind more prints.front prints.evicted;
+  next = early_longer prints.behind more prints.front prints.next;
   printed = prints.printed;
 }
 
@@ -63,19 +61,18 @@ no_less_longer turns more noted old new prints = record {
 
 -- Iterations that were made before.
 
-module _ (first second : List Turn) (state : State) (noted : ℕ) (old mid new : Option (List ℕ)) (before : mid ≡ option_map (λ (w : List ℕ). w ++ text_of first) old) where
+module _ (first second : List Turn) (noted : ℕ) (old mid new : Option (List ℕ)) (before : mid ≡ option_map (λ (w : List ℕ). w ++ text_of first) old) where
   commands_more : (shown : List Turn) → length (commands_of (first ++ shown)) ≡ length (commands_of first) + length (commands_of shown)
   commands_more shown = ap (λ (l : List Stamped). length l) (commands_of-append first shown) ∙ length-append (commands_of first) (commands_of shown)
 
-  pub no_more_then : PrintsNoMore second (state_after state (commands_of first)) noted mid new → PrintsNoMore (first ++ second) state (length (commands_of first) + noted) old new
+  pub no_more_then : PrintsNoMore second noted mid new → PrintsNoMore (first ++ second) (length (commands_of first) + noted) old new
   no_more_then prints = record {
     shown = first ++ prints.shown;
     behind = prints.behind;
     split = ap (λ (l : List Turn). first ++ l) prints.split ∙ sym (append_assoc first prints.shown prints.behind);
     are_noted = let few = prints.are_noted in let more = commands_more prints.shown in omega (arith, few, more);
     front = prints.front;
-    evicted = subst (λ (s : State). IsEvictedNext s prints.behind prints.front)
-        (sym (state_after-append state (commands_of first) (commands_of prints.shown)) ∙ ap (state_after state) (sym (commands_of-append first prints.shown))) prints.evicted;
+    next = prints.next;
     printed = subst (Appends old new) (sym (append_assoc (text_of first) (text_of prints.shown) prints.front) ∙ ap (λ (l : List ℕ). l ++ prints.front) (sym (text_of-append first prints.shown)))
         (appends_after (text_of first) (text_of prints.shown ++ prints.front) old mid new before prints.printed);
   }
@@ -102,30 +99,29 @@ module _ (first second : List Turn) (state : State) (noted : ℕ) (old mid new :
 -- All iterations.
 
 -- a prefix of their texts was printed, and all their commands are noted
-pub no_more_whole : (turns : List Turn) (state : State) (noted : ℕ) (old new : Option (List ℕ)) → length (commands_of turns) ≤ noted → Appends old new (text_of turns) → PrintsNoMore turns state noted old new
-no_more_whole turns state noted old new few printed = record {
+pub no_more_whole : (turns : List Turn) (noted : ℕ) (old new : Option (List ℕ)) → length (commands_of turns) ≤ noted → Appends old new (text_of turns) → PrintsNoMore turns noted old new
+no_more_whole turns noted old new few printed = record {
   shown = turns;
   behind = [];
   split = sym (append-nil turns);
   are_noted = few;
   front = [];
-  evicted = refl;
+  next = refl;
   printed = subst (Appends old new) (sym (append-nil (text_of turns))) printed;
 }
 
 -- One iteration.
 
--- nothing but a prefix of its eviction lines was printed
-pub no_more_evicted : (turn : Turn) (state : State) (noted : ℕ) (old new : Option (List ℕ)) (front : List ℕ) → IsEvictedNext state (turn ∷ []) front → new ≡ option_map (λ (w : List ℕ). w ++ front) old
-    → PrintsNoMore (turn ∷ []) state noted old new
-unfolding state_after
-no_more_evicted turn state noted old new front evicted printed = record {
+-- nothing but a prefix of what may be out before its note was printed
+pub no_more_early : (turn : Turn) (noted : ℕ) (old new : Option (List ℕ)) (front : List ℕ) → IsEarlyNext (turn ∷ []) front → new ≡ option_map (λ (w : List ℕ). w ++ front) old
+    → PrintsNoMore (turn ∷ []) noted old new
+no_more_early turn noted old new front next printed = record {
   shown = [];
   behind = turn ∷ [];
   split = refl;
   are_noted = omega arith;
   front = front;
-  evicted = evicted;
+  next = next;
   printed = record { front = front; rest = []; split = sym (append-nil front); written = printed };
 }
 
@@ -144,15 +140,14 @@ no_less_one turn command noted old new text is few printed = record {
 }
 
 -- nothing of it was printed
-pub no_more_unshown : (turn : Turn) (state : State) (noted : ℕ) (w : Option (List ℕ)) → w ≡ option_map (λ (l : List ℕ). l ++ []) w → PrintsNoMore (turn ∷ []) state noted w w
-unfolding state_after
-no_more_unshown turn state noted w same = record {
+pub no_more_unshown : (turn : Turn) (noted : ℕ) (w : Option (List ℕ)) → w ≡ option_map (λ (l : List ℕ). l ++ []) w → PrintsNoMore (turn ∷ []) noted w w
+no_more_unshown turn noted w same = record {
   shown = [];
   behind = turn ∷ [];
   split = refl;
   are_noted = omega arith;
   front = [];
-  evicted = ((turn.text, refl), (evictions_of state turn.command, refl));
+  next = ((turn.text, refl), (turn.early, refl));
   printed = record { front = []; rest = []; split = refl; written = same };
 }
 
@@ -210,28 +205,28 @@ first_same : (a b : Turn) (xs ys : List Turn) → a ∷ xs ≡ b ∷ ys → a �
 first_same a b xs ys e = cc
 
 pub answered_noted : AnsweredCommandsAreNoted
-answered_noted turns before state noted written printed command prints answered =
+answered_noted turns before noted written printed command prints answered =
     by (cut_within prints.shown prints.behind before (answered.turn ∷ answered.behind) (sym prints.split ∙ answered.split))
   where
     short : length printed ≤ length (text_of prints.shown ++ prints.front)
     short = printed_few written printed (text_of prints.shown ++ prints.front) prints.printed
 
     -- the iterations that are shown end before it: what follows them is shown in part
-    ends_before : (x : List Turn) → before ≡ prints.shown ++ x → prints.behind ≡ x ++ answered.turn ∷ answered.behind → length (text_of prints.shown ++ prints.front) ≤ length (text_of before ++ evictions_of (state_after state (commands_of before)) answered.turn.command)
+    ends_before : (x : List Turn) → before ≡ prints.shown ++ x → prints.behind ≡ x ++ answered.turn ∷ answered.behind → length (text_of prints.shown ++ prints.front) ≤ length (text_of before ++ answered.turn.early)
     ends_before [] same rest =
         let all : before ≡ prints.shown = same ∙ append-nil prints.shown in
-        let evicted : IsEvictedNext (state_after state (commands_of prints.shown)) (answered.turn ∷ answered.behind) prints.front = subst (λ (l : List Turn). IsEvictedNext (state_after state (commands_of prints.shown)) l prints.front) rest prints.evicted in
-        let few = no_longer prints.front (evictions_of (state_after state (commands_of prints.shown)) answered.turn.command) evicted.1 in
-        let here = ap (λ (l : List Turn). length (text_of l ++ evictions_of (state_after state (commands_of l)) answered.turn.command)) all in
+        let next : IsEarlyNext (answered.turn ∷ answered.behind) prints.front = subst (λ (l : List Turn). IsEarlyNext l prints.front) rest prints.next in
+        let few = no_longer prints.front answered.turn.early next.1 in
+        let here = ap (λ (l : List Turn). length (text_of l ++ answered.turn.early)) all in
         let a = length-append (text_of prints.shown) prints.front in
-        let b = length-append (text_of prints.shown) (evictions_of (state_after state (commands_of prints.shown)) answered.turn.command) in
+        let b = length-append (text_of prints.shown) answered.turn.early in
         omega (arith, few, here, a, b)
     ends_before (y ∷ x) same rest =
-        let evicted : IsEvictedNext (state_after state (commands_of prints.shown)) (y ∷ x ++ answered.turn ∷ answered.behind) prints.front = subst (λ (l : List Turn). IsEvictedNext (state_after state (commands_of prints.shown)) l prints.front) rest prints.evicted in
-        let few = no_longer prints.front y.text evicted.0 in
+        let next : IsEarlyNext (y ∷ x ++ answered.turn ∷ answered.behind) prints.front = subst (λ (l : List Turn). IsEarlyNext l prints.front) rest prints.next in
+        let few = no_longer prints.front y.text next.0 in
         let here = ap (λ (l : List Turn). length (text_of l)) same in
         let a = length-append (text_of prints.shown) prints.front in
-        let b = length-append (text_of before) (evictions_of (state_after state (commands_of before)) answered.turn.command) in
+        let b = length-append (text_of before) answered.turn.early in
         let c = ap (λ (l : List ℕ). length l) (text_of-append prints.shown (y ∷ x)) in
         let d = length-append (text_of prints.shown) (text_of (y ∷ x)) in
         let e = length-append y.text (text_of x) in
@@ -250,4 +245,4 @@ answered_noted turns before state noted written printed command prints answered 
 
 pub answered_done : AnsweredCommandsAreDone
 answered_done from turns before opened more steps image written printed command prints answered stopped marked =
-    (answered_noted turns before opened _ written printed command prints answered, stopped.left.later marked)
+    (answered_noted turns before _ written printed command prints answered, stopped.left.later marked)

@@ -152,6 +152,11 @@ LinesTurnNoneAway = (number : ℕ) (texts : List (List ℕ)) → TurnsNoneAway (
 abbrev pub FixedScriptsTurnNoneAway : Type 0
 FixedScriptsTurnNoneAway = ((requests : List Request) → TurnsNoneAway (until_refused requests)) × (TurnsNoneAway count_script × ((key : List ℕ) (stream : ℕ) (bytes : List ℕ) → TurnsNoneAway (put_script key stream bytes)))
 
+-- in a session of lines what may be out of an iteration before its note are the lines of what its command evicts, and nothing where it is no command
+abbrev pub EvictedLinesComeEarly : Type 0
+EvictedLinesComeEarly = (number : ℕ) (texts : List (List ℕ)) (state : State) (clock : Readings) (before behind : List Turn) (turn : Turn)
+    → turns (session_script number texts) state clock ≡ before ++ turn ∷ behind → turn.early ≡ evictions_of (state_after state (commands_of before)) turn.command
+
 -- a session makes at most half as many commands as its input has bytes, rounded up: each has a line that isn't empty
 abbrev pub CommandsAreFew : Type 0
 CommandsAreFew = (number : ℕ) (bytes : List ℕ) (state : State) (clock : Readings) → 2 * length (commands_of (turns (session_script number (lines bytes)) state clock)) ≤ length bytes + 1
@@ -305,23 +310,24 @@ StatesOfRunsAreValid = (from : Image) (opened : State) (commands : List Stamped)
 
 -- Replies.
 
--- a command is answered where a run broke off: more was printed than the texts of the iterations before it and its eviction lines, so a part of its reply
-pub record IsReplyOut (turns : List Turn) (state : State) (printed : List ℕ) (before : List Turn) (command : Stamped) : Type 0 where
+-- a command is answered where a run broke off: more was printed than the texts of the iterations before it and what may be out before its note, so a part of its
+-- reply
+pub record IsReplyOut (turns : List Turn) (printed : List ℕ) (before : List Turn) (command : Stamped) : Type 0 where
   pub turn : Turn
   pub behind : List Turn
   pub split : turns ≡ before ++ turn ∷ behind
   pub is : turn.command ≡ Some command
-  pub out : length (text_of before ++ evictions_of (state_after state (commands_of before)) turn.command) < length printed
+  pub out : length (text_of before ++ turn.early) < length printed
 
 -- a command that is answered, by what was printed where a run broke off, is among its noted commands
 abbrev pub AnsweredCommandsAreNoted : Type 0
-AnsweredCommandsAreNoted = (turns before : List Turn) (state : State) (noted : ℕ) (written printed : List ℕ) (command : Stamped) → PrintsNoMore turns state noted (Some written) (Some (written ++ printed))
-    → IsReplyOut turns state printed before command → length (commands_of before) + 1 ≤ noted
+AnsweredCommandsAreNoted = (turns before : List Turn) (noted : ℕ) (written printed : List ℕ) (command : Stamped) → PrintsNoMore turns noted (Some written) (Some (written ++ printed))
+    → IsReplyOut turns printed before command → length (commands_of before) + 1 ≤ noted
 
 -- where a run breaks off after an answered command, what is recovered is what a crash in a later command leaves, or the durable contents after all commands
 abbrev pub AnsweredCommandsAreDone : Type 0
 AnsweredCommandsAreDone = (from : Image) (turns before : List Turn) (opened : State) (more : List Stamped) (steps : List TrailStep) (image : Image) (written printed : List ℕ) (command : Stamped)
-    → PrintsNoMore turns opened (notes_in steps) (Some written) (Some (written ++ printed)) → IsReplyOut turns opened printed before command
+    → PrintsNoMore turns (notes_in steps) (Some written) (Some (written ++ printed)) → IsReplyOut turns printed before command
     → IsStopped from opened (commands_of turns ++ more) steps image → has_opened steps ≡ true
     → (length (commands_of before) + 1 ≤ notes_in steps)
     × IsLeftAt opened (commands_of turns ++ more) (notes_in steps) (command_after (commands_of turns ++ more) (notes_in steps)) (found image)
@@ -373,6 +379,6 @@ pub record IsCleanSince (opened : State) (commands : List Stamped) (done noted :
 abbrev pub AnsweredEntriesAreFound : Type 0
 AnsweredEntriesAreFound = (from : Image) (turns before : List Turn) (opened : State) (more : List Stamped) (steps : List TrailStep) (written printed : List ℕ)
     → (command : Stamped) → AtEachPrefix (IsStopped from opened (commands_of turns ++ more)) from steps
-    → PrintsNoMore turns opened (notes_in steps) (Some written) (Some (written ++ printed)) → IsReplyOut turns opened printed before command
+    → PrintsNoMore turns (notes_in steps) (Some written) (Some (written ++ printed)) → IsReplyOut turns printed before command
     → (item : Item) (row : Row) → IsCleanSince opened (commands_of turns ++ more) (length (commands_of before) + 1) (notes_in steps) item row
     → Contains (found (after steps from)) row

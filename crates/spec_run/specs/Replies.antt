@@ -6,7 +6,7 @@ use Rattle.std.specs.declared.option.Option.TheVariants.{None, Some}
 use Rattle.blk_model.specs.State.{State}
 use Rattle.blk_io.specs.Streams.{Appends}
 use Rattle.blk_script.specs.Reply.{evicted_text}
-use Rattle.spec_run.specs.Run.{Stamped, Turn, commands_of, outcome_in, state_after, text_of}
+use Rattle.spec_run.specs.Run.{Stamped, Turn, commands_of, outcome_in, text_of}
 
 -- these bytes are a prefix of a text
 abbrev pub Begins : (front text : List ℕ) → Type 0
@@ -17,20 +17,20 @@ abbrev pub evictions_of : State → Option Stamped → List ℕ
 evictions_of state None = []
 evictions_of state (Some command) = evicted_text (outcome_in state command).groups
 
--- these bytes are a prefix of the eviction lines of the next iteration, as far as it prints them
-abbrev pub IsEvictedNext : State → List Turn → (front : List ℕ) → Type 0
-IsEvictedNext state [] front = front ≡ []
-IsEvictedNext state (turn ∷ turns) front = Begins front turn.text × Begins front (evictions_of state turn.command)
+-- these bytes are a prefix of what the next iteration prints, and of what may be out of that before its command is noted
+abbrev pub IsEarlyNext : List Turn → (front : List ℕ) → Type 0
+IsEarlyNext [] front = front ≡ []
+IsEarlyNext (turn ∷ turns) front = Begins front turn.text × Begins front turn.early
 
 -- where a run broke off with so many commands noted, no more was printed than this: the texts of the first iterations, each of whose commands is noted, and
--- eviction lines of the iteration after them
-pub record PrintsNoMore (turns : List Turn) (state : State) (noted : ℕ) (old new : Option (List ℕ)) : Type 0 where
+-- what may be out of the iteration after them before its note
+pub record PrintsNoMore (turns : List Turn) (noted : ℕ) (old new : Option (List ℕ)) : Type 0 where
   pub shown : List Turn
   pub behind : List Turn
   pub split : turns ≡ shown ++ behind
   pub are_noted : length (commands_of shown) ≤ noted
   pub front : List ℕ
-  pub evicted : IsEvictedNext (state_after state (commands_of shown)) behind front
+  pub next : IsEarlyNext behind front
   pub printed : Appends old new (text_of shown ++ front)
 
 -- where a run broke off with so many commands noted: all texts of the iterations before that of the last noted command were printed

@@ -24,28 +24,30 @@ outcome_in state command = step state command.moment command.request
 abbrev pub state_then : State → Stamped → State
 state_then state command = (outcome_in state command).state
 
--- an iteration of a run: the command, where it is one; whether the clock was read before it; what is printed; and whether that is a refusal or a fault
+-- an iteration of a run: the command, where it is one; whether the clock was read before it; what is printed; what may be out of that before the command is
+-- noted; and whether it is a refusal or a fault
 pub record Turn : Type 0 where
   pub command : Option Stamped
   pub reads : Bool
   pub text : List ℕ
+  pub early : List ℕ
   pub refuses : Bool
 
 -- the iteration of a line that is no command, with the text of its fault
 abbrev pub error_turn : List ℕ → Turn
-error_turn text = record { command = None; reads = false; text = text; refuses = true }
+error_turn text = record { command = None; reads = false; text = text; early = []; refuses = true }
 
 -- the iteration that prints a text of the state
 abbrev pub text_turn : List ℕ → Turn
-text_turn text = record { command = None; reads = false; text = text; refuses = false }
+text_turn text = record { command = None; reads = false; text = text; early = []; refuses = false }
 
 -- the iteration of something that is turned away: the clock is read, but the cache is given no command
 abbrev pub away_turn : List ℕ → Turn
-away_turn text = record { command = None; reads = true; text = text; refuses = true }
+away_turn text = record { command = None; reads = true; text = text; early = []; refuses = true }
 
 -- the iteration of a command, with what is shown of it
 abbrev pub command_turn : Stamped → Shown → Turn
-command_turn command shown = record { command = Some command; reads = true; text = shown.text; refuses = shown.refuses }
+command_turn command shown = record { command = Some command; reads = true; text = shown.text; early = shown.early; refuses = shown.refuses }
 
 -- a command with the clock's next reading before it
 abbrev pub stamped_by : Readings → Request → Stamped

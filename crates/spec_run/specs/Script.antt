@@ -13,14 +13,15 @@ use Rattle.blk_model.specs.Reply.{answer_of}
 use Rattle.blk_model.specs.Step.{Outcome}
 use Rattle.blk_script.specs.declared.fault.LineFault.{LineFault}
 use Rattle.blk_script.specs.Line.{read_text}
-use Rattle.blk_script.specs.Reply.{line_fault_text, outcome_text}
+use Rattle.blk_script.specs.Reply.{evicted_text, line_fault_text, outcome_text}
 use Rattle.blk_script.specs.Spelling.{number_text}
 
 -- Scripts.
 
--- what is printed of a command, and whether that counts as a refusal
+-- what is printed of a command; what may be out of that before the command is noted; and whether it counts as a refusal
 pub record Shown : Type 0 where
   pub text : List ℕ
+  pub early : List ℕ
   pub refuses : Bool
 
 -- a script: its end; or, before what follows, the text of a fault, a text of the state, the text of something that is turned away (the clock is read as before
@@ -55,9 +56,14 @@ is_missing_refusal _ = false
 abbrev pub is_missing : Outcome → Bool
 is_missing outcome = is_missing_refusal (refusal_of (answer_of outcome.reply))
 
--- what is shown of a command: all of it where a test passes, else nothing, and a refusal that isn't shown doesn't count
+-- what is shown of a command: all of it where a test passes, the lines of what it evicts before its note; else nothing, and a refusal that isn't shown doesn't
+-- count
 abbrev pub shown_where : Bool → Outcome → Shown
-shown_where test outcome = record { text = if test then outcome_text outcome else []; refuses = test && is_refused outcome }
+shown_where test outcome = record {
+  text = if test then outcome_text outcome else [];
+  early = if test then evicted_text outcome.groups else [];
+  refuses = test && is_refused outcome;
+}
 
 -- The script of a session.
 
