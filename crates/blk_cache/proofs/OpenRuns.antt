@@ -18,6 +18,7 @@ use Rattle.law_state.specs.Keeping.{KeepsSome}
 use Rattle.spec_format.specs.BlockFiles.{IsDamagedBy, IsWellFormed, first_damage}
 use Rattle.spec_format.specs.Headers.{index_length, IsUnfinished, this_id_of, unfinished}
 use Rattle.spec_format.specs.NewFolder.{IsMade, new_index_words}
+use Rattle.spec_format.specs.Session.{session_after}
 use Rattle.spec_format.proofs.Finished.{finished_whole, magic-of, well_formed-finished}
 use Rattle.spec_format.proofs.HeaderLemmas.{unfinished_agrees}
 use Rattle.spec_folder.specs.Found.{HoldsStill, found}
@@ -41,7 +42,7 @@ use Rattle.blk_scan.specs.declared.scan.Scan.{Scan}
 use Rattle.blk_scan.specs.Scans.{ChainsStandIf, IsEmptyScan, IsScanOf, StandAmong}
 use Rattle.blk_repair.specs.Endings.{RepairBreaksOff, EndsOrBreaksOff, EndsWithCrashWord}
 use Rattle.blk_repair.proofs.Endings.{breaks-none, either-weaker, ends-weaker}
-use Rattle.blk_repair.specs.Repair.{IsRepairDamage, IsRepairable, IsRepaired, next_id}
+use Rattle.blk_repair.specs.Repair.{IsRepairDamage, IsRepairable, IsRepaired}
 use Rattle.blk_cache.specs.declared.opening.Opened.{Opened}
 use Rattle.blk_cache.specs.Opened.{IsJustMade, IsOpenedAs, IsOpeningDamage}
 use Rattle.spec_run.specs.Opening.{opened_id}
@@ -72,14 +73,14 @@ made-id moment image made =
     ∙ word-zeros index_length 20
 
 -- the session that is opened on a folder
-finished-id : (image : Image) → IsWellFormed image → opened_id image ≡ next_id (this_id_of (byte image Index))
-finished-id image well = ap (λ (b : Bool). if b then 1 else next_id (this_id_of (byte image Index))) (well_formed-finished image well)
+finished-id : (image : Image) → IsWellFormed image → opened_id image ≡ session_after (this_id_of (byte image Index))
+finished-id image well = ap (λ (b : Bool). if b then 1 else session_after (this_id_of (byte image Index))) (well_formed-finished image well)
 
 made-next : (image : Image) → IsJustMade image → opened_id image ≡ 1
-made-next image made = finished-id image (made-formed image made) ∙ ap next_id (made-id made.0 image made.1)
+made-next image made = finished-id image (made-formed image made) ∙ ap session_after (made-id made.0 image made.1)
 
 unfinished-next : (image : Image) → IsUnfinished image → opened_id image ≡ 1
-unfinished-next image un = ap (λ (b : Bool). if b then 1 else next_id (this_id_of (byte image Index))) ((unfinished_agrees image).1 un)
+unfinished-next image un = ap (λ (b : Bool). if b then 1 else session_after (this_id_of (byte image Index))) ((unfinished_agrees image).1 un)
 
 -- ---- a recovered folder
 

@@ -14,6 +14,7 @@ use Rattle.blk_model.specs.State.{State, Object, Bounds, is_named, object_at}
 use Rattle.blk_model.specs.Holding.{open_state}
 use Rattle.blk_model.proofs.Opened.{open_valid}
 use Rattle.spec_format.specs.BlockFiles.{is_among}
+use Rattle.spec_format.specs.Session.{session_after}
 use Rattle.spec_format.proofs.Counts.{its-version}
 use Rattle.spec_format.proofs.Finished.{well_formed-finished, sound-of}
 use Rattle.spec_folder.specs.Audit.{kept_by}
@@ -45,13 +46,13 @@ use Rattle.blk_scan.specs.declared.chains.KeptChains.{KeptChains}
 use Rattle.blk_scan.specs.declared.scan.Dropped.{Dropped}
 use Rattle.blk_scan.specs.declared.scan.Scan.{Scan}
 use Rattle.blk_scan.specs.Scans.{AreBare, AreChainsTold, IsEmptyScan, IsScanOf, dropped_by_told, kept_as_told}
-use Rattle.blk_repair.specs.Repair.{IsRepaired, next_id}
+use Rattle.blk_repair.specs.Repair.{IsRepaired}
 use Rattle.blk_cache.specs.OpeningLaws.{MadeFoldersAreRepairable, RepairedFoldersHaveTheToldTotals, RepairedFoldersKeepTheirState}
 use Rattle.blk_cache.proofs.Unnamed.{opened-unnamed}
 
 -- ---- a recovered folder
 
-next-some : (id : ℕ) → next_id id ≢ 0
+next-some : (id : ℕ) → session_after id ≢ 0
 next-some id = go ((id + 1) % 2 ^ 32 == 0) refl where
   go : (b : Bool) → ((id + 1) % 2 ^ 32 == 0) ≡ b → (if b then 1 else (id + 1) % 2 ^ 32) ≢ 0
   go true is e = absurd (omega (arith, e))

@@ -1,5 +1,5 @@
 -- The whole recovery of a folder, by what the scan reported.
-use Rattle.std.specs.Prelude.{ℕ, ◌≡◌, ◌⊎◌, ◌+◌, ◌%◌, ◌^◌, ◌==◌, if◌then◌else◌, List, [], length}
+use Rattle.std.specs.Prelude.{ℕ, ◌≡◌, ◌⊎◌, List, [], length}
 use Rattle.std.specs.List.{sum_by}
 use Rattle.std.specs.declared.option.Option.{Option}
 use Rattle.spec_image.specs.Image.{Image, Index, byte}
@@ -9,6 +9,7 @@ use Rattle.blk_model.specs.Holding.{open_state}
 use Rattle.blk_model.specs.State.{Bounds}
 use Rattle.spec_format.specs.BlockFiles.{IsWellFormed}
 use Rattle.spec_format.specs.Headers.{crash_of, this_id_of}
+use Rattle.spec_format.specs.Session.{session_after}
 use Rattle.spec_folder.specs.Found.{charge_of, found, kept}
 use Rattle.spec_folder.specs.ListImages.{IsWritable}
 use Rattle.spec_folder.specs.StandsFor.{StandsFor}
@@ -37,10 +38,6 @@ pub record IsRepairable (scan : Scan) (image : Image) : Type 0 where
   pub well_formed : IsWellFormed image
   pub scanned : IsScanOf image scan
 
--- the session's number after this one: one more modulo 2 ^ 32, but never 0
-abbrev pub next_id : ℕ → ℕ
-next_id id = if (id + 1) % 2 ^ 32 == 0 then 1 else (id + 1) % 2 ^ 32
-
 -- recovery is done: nothing is left to repair, kept entries and recovered contents are those of `entry`, and the session with this number is open; so the image
 -- represents the recovered contents, opened
 pub record IsRepairedFor (id : ℕ) (entry image : Image) : Type 0 where
@@ -53,7 +50,7 @@ pub record IsRepairedFor (id : ℕ) (entry image : Image) : Type 0 where
 
 -- recovery of `entry` is done, with the session's number after that of `entry`
 abbrev pub IsRepaired : Image → Image → Type 0
-IsRepaired entry image = IsRepairedFor (next_id (this_id_of (byte entry Index))) entry image
+IsRepaired entry image = IsRepairedFor (session_after (this_id_of (byte entry Index))) entry image
 
 -- links and files need no recovery, and no checksum was reported as absent; only words of the index are left
 pub record NeedsOnlyWords (scan : Scan) (image : Image) : Type 0 where

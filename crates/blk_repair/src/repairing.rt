@@ -4,6 +4,7 @@ ghost use Rattle.std.specs.Option.{ForSome};
 ghost use Rattle.spec_image.specs.Image.{Image, Index as index, byte};
 ghost use Rattle.spec_image.specs.Told.{Applies, Stays, MayWrite};
 ghost use Rattle.spec_format.specs.Headers.{this_id_of};
+ghost use Rattle.spec_format.specs.Session.{session_after};
 ghost use Rattle.blk_io.specs.Faults.{IfDamaged, IfDevice};
 ghost use Rattle.blk_disk.specs.Open.{IsOpen};
 ghost use Rattle.blk_disk.specs.Tables.{all_files, files_of};
@@ -21,7 +22,7 @@ ghost use Rattle.blk_repair.specs.Deletions.{DeletesOthers};
 ghost use Rattle.blk_repair.specs.Endings.{RepairBreaksOff, EndsOrBreaksOff, EndsWithCrashWord};
 ghost use Rattle.blk_repair.specs.Maps.{IsNextRebuilt};
 ghost use Rattle.blk_repair.specs.Parts.{AppliesOf, InTurn};
-ghost use Rattle.blk_repair.specs.Repair.{AreBucketsScanned, AreLinksMended, AreOnlyKeptLeft, AreOthersDeleted, IsBehindRepairDamage, IsLinksRepairDamage, IsNextFinished, IsRepairDamage, IsRepairable, IsRepaired, IsRepairedFor, IsRestRepairDamage, MendsFiles, MendsLinks, MendsRest, NeedsOnlyWords, RepairsInOrder, counting_steps, next_id as id_after};
+ghost use Rattle.blk_repair.specs.Repair.{AreBucketsScanned, AreLinksMended, AreOnlyKeptLeft, AreOthersDeleted, IsBehindRepairDamage, IsLinksRepairDamage, IsNextFinished, IsRepairDamage, IsRepairable, IsRepaired, IsRepairedFor, IsRestRepairDamage, MendsFiles, MendsLinks, MendsRest, NeedsOnlyWords, RepairsInOrder, counting_steps};
 
 use crate::counters::mend_index;
 use crate::deletions::{delete_unclaimed, delete_unlinked};
@@ -80,7 +81,7 @@ pub fn repair<F: Folder>(f: &mut F, files: &mut BlockFiles, scan: &Scan) -> Resu
 
 // The session's number after this one: never 0.
 fn next_id(this_id: u32) -> u32
-    ensures { result ≡ id_after this_id }
+    ensures { result ≡ session_after this_id }
 {
     match this_id.wrapping_add(1) {
         0 => 1,

@@ -12,6 +12,7 @@ use Rattle.spec_image.proofs.Images.{with_file-twice}
 use Rattle.spec_image.proofs.Runs.{some_inj}
 use Rattle.spec_format.specs.BlockFiles.{IsWellFormed, is_among}
 use Rattle.spec_format.specs.Headers.{header_length, this_id_of}
+use Rattle.spec_format.specs.Session.{session_after}
 use Rattle.spec_format.proofs.Finished.{formed-kept, well_formed-finished}
 use Rattle.blk_model.specs.Effects.{effect}
 use Rattle.blk_model.specs.Refusals.{evicted, refusals}
@@ -34,7 +35,7 @@ use Rattle.law_state.specs.Commands.{MayStop}
 use Rattle.law_state.proofs.Examples.{numbered, opened, whole-keeps, whole-magic}
 use Rattle.law_state.proofs.Keeping.{kept-held, kept-stands}
 use Rattle.spec_run.specs.Moments.{IsStopped}
-use Rattle.spec_run.specs.Opening.{Opens, close_mark, open_mark, opened_id, session_after}
+use Rattle.spec_run.specs.Opening.{Opens, close_mark, open_mark, opened_id}
 use Rattle.spec_run.specs.Progress.{IsWholeRun, NotesCommand, Progress}
 use Rattle.spec_run.specs.Run.{Stamped, state_after}
 use Rattle.spec_run.proofs.Composing.{ended, one_more}

@@ -1,5 +1,5 @@
 -- The folder that a session is opened on, the steps of its opening, and the step that ends the session.
-use Rattle.std.specs.Prelude.{ℕ, ◌≡◌, ◌==◌, ◌⊎◌, ◌+◌, ◌%◌, ◌^◌, Bool, false, ◌&&◌, if◌then◌else◌, List, [], ◌∷◌, ◌++◌}
+use Rattle.std.specs.Prelude.{◌≡◌, ◌==◌, ◌⊎◌, ℕ, Bool, false, ◌&&◌, if◌then◌else◌, List, [], ◌∷◌, ◌++◌}
 use Rattle.std.specs.List.{list_any}
 use Rattle.std.specs.Option.{ForSome}
 use Rattle.std.specs.Str.{bytes_eq}
@@ -9,6 +9,7 @@ use Rattle.spec_image.specs.Steps.{TrailStep, Word, SetLength, Delete, Note}
 use Rattle.spec_image.specs.Told.{Told, Applies, Along, HasNoNote}
 use Rattle.blk_model.specs.State.{State}
 use Rattle.spec_format.specs.Headers.{crash_of, this_id_of, unfinished}
+use Rattle.spec_format.specs.Session.{session_after}
 use Rattle.spec_folder.specs.Found.{HoldsStill}
 use Rattle.spec_folder.specs.StandsFor.{StandsFor}
 
@@ -43,10 +44,6 @@ has_closed (step ∷ next ∷ steps) = has_closed (next ∷ steps)
 -- the step that ends a session
 abbrev pub close_mark : TrailStep
 close_mark = Word Index 32 (word_bytes 0)
-
--- the number of the session after one: 1 after the last that a word has
-abbrev pub session_after : ℕ → ℕ
-session_after id = if (id + 1) % 2 ^ 32 == 0 then 1 else (id + 1) % 2 ^ 32
 
 -- the number of the session that is opened on a folder: 1 for a folder that is made, else the one after the index's number
 abbrev pub opened_id : Image → ℕ

@@ -2,7 +2,7 @@ use Rattle.std.proofs.Common.{inr, sym, ap, ◌∙◌}
 use Rattle.spec_image.specs.Image.{Index, byte}
 use Rattle.spec_image.specs.Told.{Told}
 use Rattle.spec_format.specs.Headers.{this_id_of}
-use Rattle.blk_repair.specs.Repair.{next_id}
+use Rattle.spec_format.specs.Session.{session_after}
 use Rattle.blk_repair.proofs.Endings.{either-pass, ends-stay}
 use Rattle.blk_repair.proofs.RepairRuns.{none-before, still-told}
 use Rattle.blk_cache.specs.declared.opening.Opened.{Opened}
@@ -39,4 +39,4 @@ returns-clause-opened g c from there can image here =
     opened-as c.args.scan.now from image opened can (c.in_ok-repair.ensures.mended from there can image now) (g.met.F.Folder.are_bytes c.word.new.f image here) open_now.agrees c.items.ensures c.bytes.ensures (c.in_ok-mark.ensures.word image now)
 
 pub returns-clause-made : goal.returns-clause-made
-returns-clause-made g c from there can only image here = counted-moment from (next_id (this_id_of (byte from Index))) from there (c.in_ok-repair.ensures.clean from there can only) image (sym (ap (λ (t : Told). t.files) c.in_ok-mark.ensures.reads.stays) ∙ here)
+returns-clause-made g c from there can only image here = counted-moment from (session_after (this_id_of (byte from Index))) from there (c.in_ok-repair.ensures.clean from there can only) image (sym (ap (λ (t : Told). t.files) c.in_ok-mark.ensures.reads.stays) ∙ here)

@@ -3,12 +3,13 @@ use Rattle.std.proofs.lemmas.Result.{on_ok_weaker}
 use Rattle.std.specs.Option.{ForSome}
 use Rattle.spec_image.specs.Told.{Told, Applies}
 use Rattle.spec_image.proofs.Runs.{some_inj}
+use Rattle.spec_format.specs.Session.{session_after}
 use Rattle.blk_io.proofs.Carried.{if_damaged_weaker}
 use Rattle.blk_disk.specs.Open.{IsOpen}
 use Rattle.law_recovery.specs.MendedChanges.{IsMidRepair}
 use Rattle.blk_repair.specs.Endings.{EndsOrBreaksOff, EndsWithCrashWord}
 use Rattle.blk_repair.specs.Parts.{AppliesOf}
-use Rattle.blk_repair.specs.Repair.{IsRepairable, IsRepairedFor, RepairsInOrder, counting_steps, next_id}
+use Rattle.blk_repair.specs.Repair.{IsRepairable, IsRepairedFor, RepairsInOrder, counting_steps}
 use Rattle.blk_repair.proofs.Endings.{breaks-none, either-stayed, ends-stayed}
 use Rattle.blk_repair.proofs.repairing.repair.Goals as goal
 
@@ -22,7 +23,7 @@ pub returns-clause-mended : goal.returns-clause-mended
 returns-clause-mended g c =
     on_ok_weaker c.mend_all.result
     (λ made from there is.
-    subst (λ (id : ℕ). ForSome (g.F.Folder.told c.mend_all.new.folder).files (IsRepairedFor id from)) (c.next_id.ensures ∙ ap next_id (c.in_ok-this_id.ensures.word from there))
+    subst (λ (id : ℕ). ForSome (g.F.Folder.told c.mend_all.new.folder).files (IsRepairedFor id from)) (c.next_id.ensures ∙ ap session_after (c.in_ok-this_id.ensures.word from there))
     (made from (ap (λ (t : Told). t.files) c.in_ok-this_id.ensures.reads.stays ∙ there) is)) c.mend_all.ensures.mended
 
 pub returns-clause-untold : goal.returns-clause-untold
@@ -34,7 +35,7 @@ pub returns-clause-steps : goal.returns-clause-steps
 returns-clause-steps g c =
     on_ok_weaker c.mend_all.result
     (λ made from there is.
-    subst (λ (id : ℕ). AppliesOf (RepairsInOrder c.args.files.now c.args.scan.now from id) from (g.F.Folder.told c.args.f.now) (g.F.Folder.told c.mend_all.new.folder)) (c.next_id.ensures ∙ ap next_id (c.in_ok-this_id.ensures.word from there))
+    subst (λ (id : ℕ). AppliesOf (RepairsInOrder c.args.files.now c.args.scan.now from id) from (g.F.Folder.told c.args.f.now) (g.F.Folder.told c.mend_all.new.folder)) (c.next_id.ensures ∙ ap session_after (c.in_ok-this_id.ensures.word from there))
     (subst (λ (t : Told). AppliesOf (RepairsInOrder c.args.files.now c.args.scan.now from c.next_id.result) from t (g.F.Folder.told c.mend_all.new.folder)) c.in_ok-this_id.ensures.reads.stays (made from (ap (λ (t : Told). t.files) c.in_ok-this_id.ensures.reads.stays ∙ there) is)))
     c.mend_all.ensures.steps
 
@@ -43,14 +44,14 @@ returns-in_err-this_id-clause-stops g c from there is = inl (breaks-none (IsMidR
 
 pub returns-clause-stops : goal.returns-clause-stops
 returns-clause-stops g c from there is =
-    subst (λ (id : ℕ). EndsOrBreaksOff (g.F.Folder.told c.args.f.now) (g.F.Folder.told c.mend_all.new.folder) (IsMidRepair from) (IsRepairedFor id from)) (c.next_id.ensures ∙ ap next_id (c.in_ok-this_id.ensures.word from there))
+    subst (λ (id : ℕ). EndsOrBreaksOff (g.F.Folder.told c.args.f.now) (g.F.Folder.told c.mend_all.new.folder) (IsMidRepair from) (IsRepairedFor id from)) (c.next_id.ensures ∙ ap session_after (c.in_ok-this_id.ensures.word from there))
     (either-stayed c.in_ok-this_id.ensures.reads.stays (c.mend_all.ensures.stops from (ap (λ (t : Told). t.files) c.in_ok-this_id.ensures.reads.stays ∙ there) is))
 
 pub returns-clause-last : goal.returns-clause-last
 returns-clause-last g c =
     on_ok_weaker c.mend_all.result
     (λ ends from there is.
-    subst (λ (id : ℕ). EndsWithCrashWord (g.F.Folder.told c.args.f.now) (g.F.Folder.told c.mend_all.new.folder) (IsMidRepair from) (IsRepairedFor id from)) (c.next_id.ensures ∙ ap next_id (c.in_ok-this_id.ensures.word from there))
+    subst (λ (id : ℕ). EndsWithCrashWord (g.F.Folder.told c.args.f.now) (g.F.Folder.told c.mend_all.new.folder) (IsMidRepair from) (IsRepairedFor id from)) (c.next_id.ensures ∙ ap session_after (c.in_ok-this_id.ensures.word from there))
     (ends-stayed c.in_ok-this_id.ensures.reads.stays (ends from (ap (λ (t : Told). t.files) c.in_ok-this_id.ensures.reads.stays ∙ there) is)))
     c.mend_all.ensures.last
 
@@ -58,6 +59,6 @@ pub returns-clause-clean : goal.returns-clause-clean
 returns-clause-clean g c =
     on_ok_weaker c.mend_all.result
     (λ clean from there is needs.
-    subst (λ (id : ℕ). Applies (g.F.Folder.told c.args.f.now) (g.F.Folder.told c.mend_all.new.folder) (counting_steps from id from)) (c.next_id.ensures ∙ ap next_id (c.in_ok-this_id.ensures.word from there))
+    subst (λ (id : ℕ). Applies (g.F.Folder.told c.args.f.now) (g.F.Folder.told c.mend_all.new.folder) (counting_steps from id from)) (c.next_id.ensures ∙ ap session_after (c.in_ok-this_id.ensures.word from there))
     (subst (λ (t : Told). Applies t (g.F.Folder.told c.mend_all.new.folder) (counting_steps from c.next_id.result from)) c.in_ok-this_id.ensures.reads.stays (clean from (ap (λ (t : Told). t.files) c.in_ok-this_id.ensures.reads.stays ∙ there) is needs)))
     c.mend_all.ensures.clean
