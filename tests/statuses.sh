@@ -145,7 +145,7 @@ if [ -w /dev/full ]; then
         is "$words to an output that is full" '5 ' "$? $(cat "$room/complained")"
     done
     # A session flushes each reply, a refusal and a parse error too, so it ends with 5 at the first, and the lines after it are not done.
-    # (main flushes once more, where only a status 0 becomes 5: 1 would stay 1, but then nothing waits.)
+    # (main flushes once more, where a status 0 or 1 becomes 5; that this flush alone fails no test brings about, since nothing waits then.)
     make entries "$room/replied"
     for line in 'open 0 b' fly; do
         printf '%s\ncreate 1 c\nclose 1\n' "$line" >"$room/lines"
