@@ -10,6 +10,7 @@ pub mod MemFolder
 pub mod Streams
 pub mod Clock
 pub mod MemStreams
+pub mod HoldingSink
 pub mod Untold
 pub mod SilentFolder
 pub mod StopFolder

@@ -4,6 +4,8 @@
 #[cfg(test)]
 mod counting;
 #[cfg(test)]
+mod holding;
+#[cfg(test)]
 mod long_session;
 #[cfg(test)]
 mod playing;
