@@ -20,7 +20,7 @@ use Rattle.blk_model.proofs.StopRests.{rest_after, rest_before}
 use Rattle.law_state.specs.Commands.{FinishedFoldersMayStop, FinishedFoldersMayStopAlong, MayStop, MayStopFinished}
 use Rattle.spec_format.specs.Session.{KeepsSessionWords}
 use Rattle.spec_format.proofs.Session.{quiet-words-kept}
-use Rattle.law_state.specs.Changes.{HeldIsFound}
+use Rattle.law_state.specs.Changes.{Finds, FindsFinished, HeldIsFound, HeldIsFoundAlong}
 use Rattle.spec_folder.specs.Found.{found}
 use Rattle.law_state.specs.CommandLaws.{CallsMayStop, KeptStatesMayStop, NothingIsDone, NothingMayStop, QuietRequestsKeepTheState, RefusalsAreDone, RequestsMayStopAfter, RequestsMayStopBefore, RequestsMayStopOnceEvicted, SaysKept}
 use Rattle.law_state.specs.Keeping.{KeepsSome}
@@ -52,6 +52,15 @@ kept-stop state layout unlinked image k moment request = stop-before state momen
 pub held-found : HeldIsFound
 unfolding found
 held-found rows image finds magic = let well = formed-of image finds.0 magic in (well, rw (well_formed-finished image well) finds.1)
+
+pub held-found-along : HeldIsFoundAlong
+held-found-along rows image steps quiet magic finds =
+    let P : Image → Type 0 = Finds rows in
+    let W : Image → Type 0 = KeepsSessionWords image in
+    let B : Image → Type 0 = λ i. P i × W i in
+    let R : Image → Type 0 = FindsFinished rows in
+    let now : (i : Image) → B i → R i = λ i both. held-found rows i both.0 (both.1.magic ∙ magic) in
+    until_weaker2 B R B R steps image now now (until_both P W P W steps image finds (quiet-words-kept steps image quiet))
 
 pub finished-stop : FinishedFoldersMayStop
 unfolding found

@@ -4,6 +4,8 @@ use Rattle.blk_model.specs.Items.{Row}
 use Rattle.blk_model.specs.State.{State}
 use Rattle.blk_model.specs.Holding.{rest}
 use Rattle.spec_image.specs.Image.{Index, Block, External, File, Image, byte, has_file, length_of}
+use Rattle.spec_image.specs.Steps.{TrailStep}
+use Rattle.spec_image.specs.Told.{Along, IsQuiet}
 use Rattle.spec_format.specs.Address.{block_place, external, external_number, file_selector, header_size, kind_of}
 use Rattle.spec_format.specs.Growth.{HaveGrown}
 use Rattle.spec_format.specs.Maps.{AreAllocations, EmptyAgrees}
@@ -28,6 +30,11 @@ FindsFinished rows image = IsWellFormed image × (found image ≡ rows)
 -- what is held is recovered where the magic word of an initialized index is there
 abbrev pub HeldIsFound : Type 0
 HeldIsFound = (rows : List Row) (image : Image) → Finds rows image → magic_of (byte image Index) ≡ index_magic → FindsFinished rows image
+
+-- so it is at each of some steps that a command may make, where the index is initialized before the first
+abbrev pub HeldIsFoundAlong : Type 0
+HeldIsFoundAlong = (rows : List Row) (image : Image) (steps : List TrailStep) → IsQuiet steps → magic_of (byte image Index) ≡ index_magic
+    → Along (Finds rows) image steps → Along (FindsFinished rows) image steps
 
 -- at a moment of a call: whatever state was kept with these words unlinked, its durable contents are held
 abbrev pub StillFinds : List ℕ → Image → Image → Type 0

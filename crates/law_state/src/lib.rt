@@ -2,7 +2,7 @@
 //! bodies.
 #![tactic(auto)]
 
-ghost use Rattle.law_state.specs.Changes.{HeldIsFound};
+ghost use Rattle.law_state.specs.Changes.{HeldIsFound, HeldIsFoundAlong};
 ghost use Rattle.law_state.specs.Commands.{FinishedFoldersMayStop, FinishedFoldersMayStopAlong};
 ghost use Rattle.law_state.specs.Keeping.{KeepsSome};
 ghost use Rattle.law_state.specs.KeepingLaws.{KeptStatesAreHeld, KeptStatesAreFound, KeptStatesAreStoodFor, KeptStatesAreSound, FoldersWithoutEntriesKeepTheEmptyState, OpenedFoldersKeepTheirState};
@@ -55,6 +55,7 @@ pub fn opened_folders_keep_their_state()
 /// were, it keeps the state with its counters.
 pub fn calls_keep_states()
     ensures held { HeldIsFound }
+    ensures along { HeldIsFoundAlong }
     ensures found { WhatIsKeptIsFound }
     ensures counters { SameCountersCountTheSame }
 {}
