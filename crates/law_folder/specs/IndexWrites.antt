@@ -3,10 +3,11 @@ use Rattle.std.specs.Prelude.{◌≡◌, ℕ, ◌+◌, ◌/◌, ◌^◌, ◌<◌
 use Rattle.spec_image.specs.Image.{Index, Image, byte, word}
 use Rattle.spec_image.specs.Footprint.{SameOutside, one_word}
 use Rattle.spec_format.specs.Headers.{count_of, counted_places, header_length, index_version, place_of_bucket, version_place, zero_places, heads_place, tails_place, transaction_place, operation_place}
-use Rattle.spec_format.specs.BlockFiles.{is_among, stands_in, KeepsHeaders}
+use Rattle.spec_format.specs.BlockFiles.{is_among, stands_in, HasSoundHeaders, KeepsHeaders}
 use Rattle.spec_folder.specs.ListView.{ListWrite, Head, Tail, Transaction, Operation, put}
 use Rattle.spec_folder.specs.View.{list_of, store_of, view_of}
 use Rattle.spec_folder.specs.ShownChanges.{OnlyListChanges}
+use Rattle.spec_folder.specs.Found.{kept}
 
 -- a word of the index has this value, and all else is as before
 pub record IsIndexWord (at x : ℕ) (from image : Image) : Type 0 where
@@ -59,6 +60,10 @@ checked_words = 0 ∷ 4 ∷ 24 ∷ 28 ∷ 36 ∷ zero_places
 -- the write of a word of the index that no check reads keeps the headers
 abbrev pub OtherWordsAreNotChecked : Type 0
 OtherWordsAreNotChecked = (from image : Image) (at : ℕ) → at % 4 ≡ 0 → is_among checked_words at ≡ false → SameOutside (one_word Index at) from image → KeepsHeaders from image
+
+-- the write of the magic word, whichever it was and is, leaves sound headers sound, and what recovery keeps; what is shown stays by `OtherWordsAreNotShown`
+abbrev pub MagicWordsAreNotChecked : Type 0
+MagicWordsAreNotChecked = (from image : Image) → SameOutside (one_word Index 0) from image → (HasSoundHeaders from → HasSoundHeaders image) × (kept image ≡ kept from)
 
 -- the write of the version that is made now keeps the headers, whichever of the two it was
 abbrev pub VersionsMayBeRaised : Type 0

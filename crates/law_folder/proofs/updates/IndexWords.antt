@@ -14,12 +14,15 @@ use Rattle.spec_format.specs.Headers.{field_checks, list_checks, zero_places, in
 use Rattle.spec_format.proofs.Counts.{same-count}
 use Rattle.spec_format.proofs.Finished.{sound-version}
 use Rattle.spec_format.specs.Standing.{stands, stands_as_blocks}
-use Rattle.spec_format.specs.BlockFiles.{is_among, linked, next_file_in, max_entries_in, stands_in, KeepsHeaders}
+use Rattle.spec_format.specs.BlockFiles.{is_among, linked, next_file_in, max_entries_in, stands_in, HasSoundHeaders, KeepsHeaders}
 use Rattle.spec_folder.specs.ListView.{ListView, put}
-use Rattle.spec_folder.specs.View.{StoreView, list_of, checks_at, next_at, prev_at, store_of, node_fields_at, fields_at, follow_at, key_place_at, stored_at}
+use Rattle.spec_folder.specs.View.{StoreView, View, list_of, checks_at, next_at, prev_at, store_of, node_fields_at, fields_at, follow_at, key_place_at, stored_at}
 use Rattle.spec_folder.specs.ShownChanges.{ShowsTheSame}
-use Rattle.law_folder.specs.IndexWrites.{shown_words, checked_words, HeadsAreWritten, TailsAreWritten, TransactionsAreWritten, OperationsAreWritten, OtherWordsAreNotShown, BucketsAreWritten, OtherWordsAreNotChecked, VersionsMayBeRaised, OtherBytesAreNotCounted, BucketsAreNotChecked, IndexWordsStandApart}
-use Rattle.law_folder.proofs.updates.WellFormed.{headers_still}
+use Rattle.spec_folder.specs.Audit.{kept_by}
+use Rattle.spec_folder.specs.Found.{completed, kept}
+use Rattle.spec_folder.specs.Loads.{held_rule}
+use Rattle.law_folder.specs.IndexWrites.{MagicWordsAreNotChecked, shown_words, checked_words, HeadsAreWritten, TailsAreWritten, TransactionsAreWritten, OperationsAreWritten, OtherWordsAreNotShown, BucketsAreWritten, OtherWordsAreNotChecked, VersionsMayBeRaised, OtherBytesAreNotCounted, BucketsAreNotChecked, IndexWordsStandApart}
+use Rattle.law_folder.proofs.updates.WellFormed.{sound_still}
 
 -- an image with another index
 unfoldable pub with_index : Image → Option (List ℕ) → Image
@@ -168,16 +171,19 @@ same-heads f g m n size b (c, (d, (e, rest))) = λ i.
     ∷ check_found Index 36 (e i) (e i == 0)
     ∷ []
 
--- the words that a check reads, but for the version
+-- the words that a check reads, but for the version; and but for the magic word too
 abbrev other_checked : List ℕ
 other_checked = 0 ∷ 24 ∷ 28 ∷ 36 ∷ zero_places
 
--- the headers are kept where they are the same, and the check of the version gives the same
-checked-still : (from image : Image) (at : ℕ) → SameOutside (one_word Index at) from image → SameVersionCheck (byte image Index) (byte from Index)
-    → ((p : ℕ) → p % 4 ≡ 0 → p + 4 ≤ 368 → is_among other_checked p ≡ true → word image Index p ≡ word from Index p) → KeepsHeaders from image
+abbrev sound_checked : List ℕ
+sound_checked = 24 ∷ 28 ∷ 36 ∷ zero_places
+
+-- sound headers stay sound where these are the same, and the check of the version gives the same
+sound-words : (from image : Image) (at : ℕ) → SameOutside (one_word Index at) from image → SameVersionCheck (byte image Index) (byte from Index)
+    → ((p : ℕ) → p % 4 ≡ 0 → p + 4 ≤ 368 → is_among sound_checked p ≡ true → word image Index p ≡ word from Index p) → HasSoundHeaders from → HasSoundHeaders image
 unfolding list_checks
-checked-still from image at same version s =
-    headers_still (one_word Index at) from image (record { bytes = λ m i small. refl }) (λ m. refl) same (s 0 refl (lit≤ tt) refl)
+sound-words from image at same version s =
+    sound_still (one_word Index at) from image (record { bytes = λ m i small. refl }) (λ m. refl) same
     (ap first_of (same-heads (byte image Index) (byte from Index) (length_of image Index) (length_of from Index) (same.lengths Index refl) version
     (s 24 refl (lit≤ tt) refl, (s 28 refl (lit≤ tt) refl, (s 36 refl (lit≤ tt) refl, tt)))))
     (ap first_of (same-zeros (byte image Index) (byte from Index) zero_places (
@@ -218,6 +224,14 @@ checked-still from image at same version s =
       ),
     )))
 
+-- so the headers are kept where the magic word is the same too
+checked-still : (from image : Image) (at : ℕ) → SameOutside (one_word Index at) from image → SameVersionCheck (byte image Index) (byte from Index)
+    → ((p : ℕ) → p % 4 ≡ 0 → p + 4 ≤ 368 → is_among other_checked p ≡ true → word image Index p ≡ word from Index p) → KeepsHeaders from image
+checked-still from image at same version s = record {
+  sound = sound-words from image at same version (λ p even inside there. s p even inside (or_right (0 == p) (is_among sound_checked p) there));
+  magic = s 0 refl (lit≤ tt) refl;
+}
+
 -- a version that is the same is checked the same
 version-still : (f g : ℕ → ℕ) → word_at f 4 ≡ word_at g 4 → SameVersionCheck f g
 version-still f g same = ap (λ (v : ℕ). check_found Index 4 v (is_index_version v)) same
@@ -233,6 +247,16 @@ pub others-unchecked : OtherWordsAreNotChecked
 others-unchecked from image at aligned lacks same =
     let still : (p : ℕ) → p % 4 ≡ 0 → is_among checked_words p ≡ true → word image Index p ≡ word from Index p = λ p even there. word-still from image at same p (beside p at even aligned (not-among checked_words p at there lacks)) in
     checked-still from image at same (version-still (byte image Index) (byte from Index) (still 4 refl refl)) (λ p even inside there. still p even (checked-other p there))
+
+pub magic-unchecked : MagicWordsAreNotChecked
+unfolding kept
+magic-unchecked from image same =
+    let still : (p : ℕ) → p % 4 ≡ 0 → is_among (4 ∷ sound_checked) p ≡ true → word image Index p ≡ word from Index p =
+    λ p even there. word-still from image 0 same p (beside p 0 even refl (not-among (4 ∷ sound_checked) p 0 there refl)) in (
+      sound-words from image 0 same (version-still (byte image Index) (byte from Index) (still 4 refl refl))
+          (λ p even inside there. still p even (or_right (4 == p) (is_among sound_checked p) there)),
+      ap (λ (view : View). kept_by held_rule (completed view)) (others-hidden from image 0 refl (omega arith) refl same),
+    )
 
 -- a version that is read, and the one that is made now
 raised : (f g : ℕ → ℕ) → word_at f 4 ≡ index_version → is_index_version (version_of g) ≡ true → SameVersionCheck f g

@@ -19,7 +19,7 @@ before_range file other at n i below = by_file (same_file file other)
     by_file false = refl
 
 -- sound headers stay sound where none of a block file changes, and no length of one, and the checks of the index give the same
-sound_still : (F : Footprint) (from image : Image) → SparesHeaders F → ((n : ℕ) → F.sizes (Block n) ≡ false) → SameOutside F from image
+pub sound_still : (F : Footprint) (from image : Image) → SparesHeaders F → ((n : ℕ) → F.sizes (Block n) ≡ false) → SameOutside F from image
     → first_of (field_checks (byte image Index) (length_of image Index)) ≡ first_of (field_checks (byte from Index) (length_of from Index))
     → first_of (list_checks (byte image Index)) ≡ first_of (list_checks (byte from Index))
     → HasSoundHeaders from → HasSoundHeaders image
