@@ -17,7 +17,7 @@ use Rattle.spec_format.specs.NewFolder.{IsMade, new_index_words}
 use Rattle.spec_format.proofs.Counts.{its-version}
 use Rattle.spec_folder.specs.Found.{charge_of, kept}
 use Rattle.law_folder.proofs.states.Bare.{bare-sound}
-use Rattle.law_folder.proofs.states.NewFolders.{Neighbours, new-bare, words_beside}
+use Rattle.law_folder.proofs.states.NewFolders.{Neighbours, new-bare, new-formed, words_beside}
 use Rattle.law_recovery.specs.Mended.{IsMended}
 use Rattle.law_recovery.proofs.SoundFolders.{sound-mended}
 use Rattle.blk_scan.specs.declared.scan.Scan.{Scan}
@@ -51,7 +51,7 @@ made-moment moment image fits made =
 pub made-needs : (scan : Scan) (image : Image) → IsJustMade image → IsEmptyScan scan → NeedsOnlyWords scan image
 made-needs scan image made empty =
     let bare = new-bare made.0 image made.1 in
-    let now : IsMended image = sound-mended image (bare-sound image bare) (its-version (byte image Index) 0 0 bare.index.counts) in
+    let now : IsMended image = sound-mended image (bare-sound image bare (new-formed made.0 image made.1)) (its-version (byte image Index) 0 0 bare.index.counts) in
     record { links = now.links; files = now.files; only = now.only; bare = empty.bare }
 
 -- ---- while words of the index are written

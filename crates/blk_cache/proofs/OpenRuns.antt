@@ -24,7 +24,7 @@ use Rattle.spec_format.proofs.HeaderLemmas.{unfinished_agrees}
 use Rattle.spec_folder.specs.Found.{HoldsStill, found}
 use Rattle.spec_folder.specs.StandsFor.{StandsFor}
 use Rattle.law_folder.proofs.states.Bare.{bare-found}
-use Rattle.law_folder.proofs.states.NewFolders.{new-bare, words_beside}
+use Rattle.law_folder.proofs.states.NewFolders.{new-bare, new-formed, words_beside}
 use Rattle.blk_io.specs.declared.fault.Damage as blk
 use Rattle.blk_io.specs.declared.fault.Fault.{Fault}
 use Rattle.blk_io.specs.declared.fault.Fault.TheVariants as fault
@@ -63,7 +63,7 @@ pub made-found : (image : Image) → IsJustMade image → found image ≡ []
 made-found image made = bare-found image (new-bare made.0 image made.1)
 
 pub made-formed : (image : Image) → IsJustMade image → IsWellFormed image
-made-formed image made = let bare = new-bare made.0 image made.1 in bare.well_formed
+made-formed image made = new-formed made.0 image made.1
 
 -- its session has the number 0
 made-id : (moment : ℕ) (image : Image) → IsMade moment image → this_id_of (byte image Index) ≡ 0

@@ -13,7 +13,7 @@ use Rattle.blk_model.specs.Room.{items, total}
 use Rattle.blk_model.specs.State.{State, Object, Bounds, is_named, object_at}
 use Rattle.blk_model.specs.Holding.{open_state}
 use Rattle.blk_model.proofs.Opened.{open_valid}
-use Rattle.spec_format.specs.BlockFiles.{is_among}
+use Rattle.spec_format.specs.BlockFiles.{is_among, IsWellFormed}
 use Rattle.spec_format.specs.Session.{session_after}
 use Rattle.spec_format.proofs.Counts.{its-version}
 use Rattle.spec_format.proofs.Finished.{well_formed-finished, sound-of}
@@ -29,7 +29,7 @@ use Rattle.law_folder.specs.ChargeLaws.{AreOpenedTotals}
 use Rattle.law_folder.proofs.states.Bare.{bare-found, bare-sound}
 use Rattle.law_folder.proofs.states.Central.{walk-idle}
 use Rattle.law_folder.proofs.states.Charges.{opened-totals}
-use Rattle.law_folder.proofs.states.NewFolders.{new-bare}
+use Rattle.law_folder.proofs.states.NewFolders.{new-bare, new-formed}
 use Rattle.law_state.specs.Keeping.{IsInSession, KeepsSome}
 use Rattle.law_state.proofs.Opened.{opened-kept}
 use Rattle.law_recovery.specs.ChainRepair.{is_kept_record}
@@ -107,15 +107,15 @@ of-none [] e w (inl among) = cc
 of-none [] e w (inr good) = cc
 of-none (k ∷ ks) e w of = cc
 
-module _ (image : Image) (bare : HasNoEntries image) where
+module _ (image : Image) (bare : HasNoEntries image) (formed : IsWellFormed image) where
   kept-none : kept image ≡ []
   unfolding found
-  kept-none = no-rows (kept image) (sym (rows image bare) ∙ bare-found image bare) where
-    rows : (i : Image) → HasNoEntries i → found i ≡ map row_of_loaded (kept i)
-    rows i b = rw (well_formed-finished i b.well_formed) refl
+  kept-none = no-rows (kept image) (sym (rows image formed) ∙ bare-found image bare) where
+    rows : (i : Image) → IsWellFormed i → found i ≡ map row_of_loaded (kept i)
+    rows i f = rw (well_formed-finished i f) refl
 
   mended : IsMended image
-  mended = sound-mended image (bare-sound image bare) (its-version (byte image Index) 0 0 bare.index.counts)
+  mended = sound-mended image (bare-sound image bare formed) (its-version (byte image Index) 0 0 bare.index.counts)
 
   walk-none : completed_walk image ≡ []
   walk-none = walk-idle (list_of image) mended.links.rests.idle ∙ sym (kept-walked image mended.links) ∙ ap (λ (ks : List Loaded). map (λ k. k.node) ks) kept-none
@@ -128,7 +128,7 @@ module _ (image : Image) (bare : HasNoEntries image) where
     walked = empty.walked ∙ sym walk-none;
     kept_told = empty.kept_told ∙ ap (λ (ks : List Loaded). map kept_as_told ks) (sym kept-none);
     kept_nodes = empty.kept_nodes ∙ ap (λ (ks : List Loaded). map (λ k. k.node) ks) (sym kept-none);
-    dropped_told = ap (λ (ds : List Dropped). map dropped_by_told ds) empty.dropped ∙ sym (bare-sound image bare).nothing_dropped;
+    dropped_told = ap (λ (ds : List Dropped). map dropped_by_told ds) empty.dropped ∙ sym (bare-sound image bare formed).nothing_dropped;
     claims = subst (λ (ks : List Loaded). IsClaimsOf scan.claims (flat_map words_of ks)) (sym kept-none) empty.claims;
     bytes = empty.bytes ∙ ap (λ (ks : List Loaded). sum_by charge_of ks) (sym kept-none);
     chains = subst (λ (o : Option KeptChains). AreChainsTold image o) (sym empty.chains) mended.links.chains;
@@ -138,4 +138,5 @@ module _ (image : Image) (bare : HasNoEntries image) where
 pub made-repairable : MadeFoldersAreRepairable
 made-repairable moment image scan made empty =
     let bare : HasNoEntries image = new-bare moment image made in
-    record { well_formed = bare.well_formed; scanned = scanned image bare scan empty }
+    let formed : IsWellFormed image = new-formed moment image made in
+    record { well_formed = formed; scanned = scanned image bare formed scan empty }

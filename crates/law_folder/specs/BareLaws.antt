@@ -1,12 +1,13 @@
 -- The laws of folders in which nothing is kept, such as one that was just made.
 use Rattle.std.specs.Prelude.{◌≡◌, ℕ, ◌^◌, ◌<◌, ◌≤◌, [], true, false, is_some}
 use Rattle.spec_image.specs.Image.{Index, Block, External, Image, has_file, length_of, byte}
+use Rattle.spec_image.specs.Footprint.{SameOutside, one_word}
 use Rattle.blk_model.specs.State.{Bounds}
 use Rattle.blk_model.specs.Holding.{open_state}
 use Rattle.spec_format.specs.Address.{header_size}
 use Rattle.spec_format.specs.Headers.{count_of, counting, table_length, bucket_of, allocations_of, empty_of, updating_of}
-use Rattle.spec_format.specs.NewFolder.{IsMade}
-use Rattle.spec_format.specs.BlockFiles.{linked_as, max_entries_in, most_blocks, IsWellFormed}
+use Rattle.spec_format.specs.NewFolder.{HoldsNew, IsMade, index_without_magic}
+use Rattle.spec_format.specs.BlockFiles.{linked_as, max_entries_in, most_blocks, HasSoundHeaders, IsWellFormed}
 use Rattle.spec_format.specs.Maps.{is_block_marked}
 use Rattle.spec_folder.specs.View.{list_of, view_of}
 use Rattle.spec_folder.specs.Found.{found}
@@ -36,9 +37,10 @@ pub record IsFileWithoutBlocks (image : Image) (n : ℕ) : Type 0 where
   pub updating : updating_of (byte image (Block n)) ≡ 0
   pub map : (b : ℕ) → b < most_blocks → is_block_marked image n b ≡ false
 
--- an empty cache: a well-formed folder with an index without entries, block files without blocks, and no other files
+-- an empty cache, whether or not its index is initialized: no check of a header fails but perhaps that of the magic word, the index has no entries, the block
+-- files have no blocks, and there are no other files
 pub record HasNoEntries (image : Image) : Type 0 where
-  pub well_formed : IsWellFormed image
+  pub sound : HasSoundHeaders image
   pub index : IsIndexWithoutEntries image
   pub blocks : (n : ℕ) → is_some (linked_as image n) ≡ true → IsFileWithoutBlocks image n
   pub only_linked : OnlyLinked image
@@ -48,18 +50,30 @@ pub record HasNoEntries (image : Image) : Type 0 where
 abbrev pub FoldersWithoutEntriesHoldNothing : Type 0
 FoldersWithoutEntriesHoldNothing = (image : Image) → HasNoEntries image → found image ≡ []
 
--- an empty cache is consistent
+-- an initialized empty cache is consistent
 abbrev pub FoldersWithoutEntriesAreSound : Type 0
-FoldersWithoutEntriesAreSound = (image : Image) → HasNoEntries image → IsSound image
+FoldersWithoutEntriesAreSound = (image : Image) → HasNoEntries image → IsWellFormed image → IsSound image
 
 -- the view of an empty cache has the empty state, by the layout of no objects
 abbrev pub FoldersWithoutEntriesRepresentTheEmptyState : Type 0
 FoldersWithoutEntriesRepresentTheEmptyState = (image : Image) (limits : Bounds) → HasNoEntries image → Represents (view_of image) (open_state [] limits) no_layout
 
--- an empty cache represents the empty state, with its files, maps and counters
+-- an initialized empty cache represents the empty state, with its files, maps and counters
 abbrev pub FoldersWithoutEntriesStandForTheEmptyState : Type 0
-FoldersWithoutEntriesStandForTheEmptyState = (image : Image) (limits : Bounds) → HasNoEntries image → StandsFor image (open_state [] limits)
+FoldersWithoutEntriesStandForTheEmptyState = (image : Image) (limits : Bounds) → HasNoEntries image → IsWellFormed image → StandsFor image (open_state [] limits)
 
 -- a new folder is an empty cache
 abbrev pub NewFoldersHaveNoEntries : Type 0
 NewFoldersHaveNoEntries = (moment : ℕ) (image : Image) → IsMade moment image → HasNoEntries image
+
+-- a new folder is well formed
+abbrev pub NewFoldersAreWellFormed : Type 0
+NewFoldersAreWellFormed = (moment : ℕ) (image : Image) → IsMade moment image → IsWellFormed image
+
+-- a write of the magic word leaves an empty cache one
+abbrev pub MagicWordsAddNoEntries : Type 0
+MagicWordsAddNoEntries = (from image : Image) → SameOutside (one_word Index 0) from image → HasNoEntries from → HasNoEntries image
+
+-- a new folder is an empty cache before its magic word is written, too
+abbrev pub UninitializedFoldersHaveNoEntries : Type 0
+UninitializedFoldersHaveNoEntries = (moment : ℕ) (image : Image) → HoldsNew 4 (index_without_magic moment) image → HasNoEntries image

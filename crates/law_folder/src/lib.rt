@@ -5,7 +5,7 @@
 #![tactic(auto)]
 
 ghost use Rattle.law_folder.specs.AllocationLaws.{SoundFilesAreAllocated, StoodForFilesAreAllocated};
-ghost use Rattle.law_folder.specs.BareLaws.{NothingRepresentsTheEmptyState, FoldersWithoutEntriesHoldNothing, FoldersWithoutEntriesAreSound, FoldersWithoutEntriesRepresentTheEmptyState, FoldersWithoutEntriesStandForTheEmptyState, NewFoldersHaveNoEntries};
+ghost use Rattle.law_folder.specs.BareLaws.{NothingRepresentsTheEmptyState, FoldersWithoutEntriesHoldNothing, FoldersWithoutEntriesAreSound, FoldersWithoutEntriesRepresentTheEmptyState, FoldersWithoutEntriesStandForTheEmptyState, NewFoldersHaveNoEntries, NewFoldersAreWellFormed, MagicWordsAddNoEntries, UninitializedFoldersHaveNoEntries};
 ghost use Rattle.law_folder.specs.ByteLaws.{BlocksStandByTheirLast, CoveredChangesStayInside, BlocksAreCovered, ExternalFilesAreCovered, HeadersNeedNoCover, HiddenWordsNeedNoCover, CoversOfLess, MoreCovers, CoversOfEither, AgreeingImagesShowTheSame, CoveredChangesAgree, GrowthIsPastTheBlocks, SameLinksLinkTheSame, AgreementGoesOn, AgreementButMore, LongerFilesHaveGrown, GrowthIsOfAbsentBlocks, ChangedHeadersHaveGrown, GrowthKeepsStates, UnlinkedFilesMayGo};
 ghost use Rattle.law_folder.specs.CommandLaws.{UnsettledObjectsMayChange, UnsettledChangesAreAtRest, RemovalsKeepTheOthers, LessIsPlaced, LessIsRepresented, DirtyWordsSettle, WrittenDirtyWordsSettle, ChangedDoomedObjectsArePlaced, ChangedDoomedObjectsAreRepresented, DoomedChangesAreAtRest, GoneDoomedObjectsAreRepresented, DoomedDirtyWordsSettle, WrittenDoomedDirtyWordsSettle, RepresentedHoldExcept, MoreMayBeLeftOut, OthersHoldOutside, OthersHoldUnlinked, ChainedRecordsAreOnlyRecords, RecordsStayOutside, RecordsStayUnlinked, RecordsOfAnotherStateLoad, ListedItemsAreAtRest, DoomsKeepTheOthers, DoomsAtEachWrite, DoomedPartsAtEachWrite, DoomedIsPlaced, DoomedIsRepresented, HandlesAreNotShown, RestBeforeTurning, RestAfterTurning, OpensAtEachWrite, OpensEnd, WrittenEntriesStay, CreatesBeforeTheInsert, CreatesAtEachWrite, CreatesEnd, CreatesAfterTheLink, CreatesEndAtTheStep, CreatesLeaveTheRest, CreatesMayLeaveWhatWas};
 ghost use Rattle.law_folder.specs.KeptLaws.{KeptAreTheGiven, NoneOfTheGivenIsDropped, KeptAreShown, KeptAloneAreKept, LeavingOutKeepsTheSame, SameKeyIsOneChain, OnlyCandidatesAreKept, SameCandidatesAreHeldAlike, SameCandidatesHoldTheSame};
@@ -132,7 +132,8 @@ pub fn nothing_represents_the_empty_state()
     ensures { NothingRepresentsTheEmptyState }
 {}
 
-/// An empty cache (`HasNoEntries`) has no recovered contents, is consistent, and represents the empty state.
+/// An empty cache (`HasNoEntries`) has no recovered contents, and its view represents the empty state; where its index is initialized it is consistent, and
+/// represents the empty state with its files, maps and counters.
 pub fn folders_without_entries_are_sound()
     ensures held { FoldersWithoutEntriesHoldNothing }
     ensures sound { FoldersWithoutEntriesAreSound }
@@ -140,9 +141,12 @@ pub fn folders_without_entries_are_sound()
     ensures stands { FoldersWithoutEntriesStandForTheEmptyState }
 {}
 
-/// A new folder is an empty cache (`HasNoEntries`).
+/// A new folder is an empty cache (`HasNoEntries`) and well formed. It is an empty cache before its magic word is written, too.
 pub fn new_folders_have_no_entries()
-    ensures { NewFoldersHaveNoEntries }
+    ensures none { NewFoldersHaveNoEntries }
+    ensures formed { NewFoldersAreWellFormed }
+    ensures magic { MagicWordsAddNoEntries }
+    ensures uninitialized { UninitializedFoldersHaveNoEntries }
 {}
 
 /// A walk of the nodes of some items keeps the records that pass a test which agrees with its rule; recovery keeps the rows of those that are clean, where no

@@ -67,18 +67,18 @@ module _ (items sum nodes : ℕ) (from image : Image) (w : AreCountersWritten it
 
   -- a word that isn't written after all, after the number of items, and after the sum
   behind-sum : (p : ℕ) → p % 4 ≡ 0 → (p == 268) ≡ false → word image Index p ≡ word w.second Index p
-  behind-sum p even other = other-word w.second image 268 refl (lit≤ tt) refl refl w.nodes_written.outside p even other
+  behind-sum p even other = other-word w.second image 268 refl (lit≤ tt) refl w.nodes_written.outside p even other
 
   behind-items : (p : ℕ) → p % 4 ≡ 0 → (p == 268) ≡ false → (p == 52) ≡ false → (p == 48) ≡ false → word image Index p ≡ word w.first Index p
-  behind-items p even one two three = behind-sum p even one ∙ other-word between w.second 52 refl (lit≤ tt) refl refl w.sum_written.high.outside p even two
-      ∙ other-word w.first between 48 refl (lit≤ tt) refl refl w.sum_written.low.outside p even three
+  behind-items p even one two three = behind-sum p even one ∙ other-word between w.second 52 refl (lit≤ tt) refl w.sum_written.high.outside p even two
+      ∙ other-word w.first between 48 refl (lit≤ tt) refl w.sum_written.low.outside p even three
 
   others : (p : ℕ) → p % 4 ≡ 0 → (p == 268) ≡ false → (p == 52) ≡ false → (p == 48) ≡ false → (p == 8) ≡ false → word image Index p ≡ word from Index p
-  others p even one two three four = behind-items p even one two three ∙ other-word from w.first 8 refl (lit≤ tt) refl refl w.items_written.outside p even four
+  others p even one two three four = behind-items p even one two three ∙ other-word from w.first 8 refl (lit≤ tt) refl w.items_written.outside p even four
 
   sum-is : num_bytes64_of (byte image Index) ≡ sum
   sum-is =
-      let low : word image Index 48 ≡ sum % 4294967296 = behind-sum 48 refl refl ∙ other-word between w.second 52 refl (lit≤ tt) refl refl w.sum_written.high.outside 48 refl refl ∙ w.sum_written.low.there in
+      let low : word image Index 48 ≡ sum % 4294967296 = behind-sum 48 refl refl ∙ other-word between w.second 52 refl (lit≤ tt) refl w.sum_written.high.outside 48 refl refl ∙ w.sum_written.low.there in
       let high : word image Index 52 ≡ sum / 4294967296 = behind-sum 52 refl refl ∙ w.sum_written.high.there in
       omega (arith, low, high)
 

@@ -8,7 +8,6 @@ use Rattle.spec_format.specs.Address.{block_place}
 use Rattle.spec_format.specs.BlockFiles.{linked_as, max_entries_in, stands_in}
 use Rattle.spec_format.specs.Claims.{has_claim, is_in_file, repeats}
 use Rattle.spec_format.specs.Maps.{groups_of, groups_with, is_block_marked, EmptyAgrees}
-use Rattle.spec_format.proofs.Finished.{sound-of}
 use Rattle.law_folder.specs.BareLaws.{HasNoEntries, IsFileWithoutBlocks}
 use Rattle.law_folder.proofs.states.Bare.{represents-empty}
 use Rattle.law_folder.proofs.states.Empty.{empty-valid, no-object}
@@ -36,7 +35,7 @@ unfolding open_state has_claim repeats block_place
 empty-kept image limits bare crash id = record {
   entries = record {
     valid = empty-valid limits;
-    sound = sound-of image bare.well_formed;
+    sound = bare.sound;
     represents = represents-empty image bare limits;
     numbers = [];
     owners = record {

@@ -23,7 +23,7 @@ use Rattle.law_folder.proofs.updates.IndexWords.{others-unchecked}
 use Rattle.law_folder.proofs.states.NewFolders.{new_folder}
 use Rattle.spec_folder.specs.Tidy.{IsTidy}
 use Rattle.law_folder.proofs.examples.OneEntry as one
-use Rattle.law_folder.proofs.examples.Premises.{new_is_bare, state_is_valid}
+use Rattle.law_folder.proofs.examples.Premises.{new_is_bare, new_is_formed, state_is_valid}
 use Rattle.law_folder.proofs.examples.WholeFolder.{whole_folder, whole-is_well_formed, whole-is_represented}
 use Rattle.law_folder.proofs.examples.ExampleFolders.{whole-counts, whole-is_allocated, whole-is_in_order}
 use Rattle.law_folder.proofs.examples.ExampleDoomed.{doomed_layout, doomed_object, doomed_state, doomed-is_valid}
@@ -121,8 +121,8 @@ new-links = same-links (new_folder 50) new_opened (λ n. refl)
 new_opened_is_bare : HasNoEntries new_opened
 unfolding list_of max_entries_in
 new_opened_is_bare = record {
-  well_formed = formed-kept (numbered (new_folder 50) 7) new_opened (others-unchecked (numbered (new_folder 50) 7) new_opened 32 refl refl (outside_write Index 32 (word_bytes 1) (numbered (new_folder 50) 7)))
-      (formed-kept (new_folder 50) (numbered (new_folder 50) 7) (others-unchecked (new_folder 50) (numbered (new_folder 50) 7) 20 refl refl (outside_write Index 20 (word_bytes 7) (new_folder 50))) new_is_bare.well_formed);
+  sound = sound-of new_opened (formed-kept (numbered (new_folder 50) 7) new_opened (others-unchecked (numbered (new_folder 50) 7) new_opened 32 refl refl (outside_write Index 32 (word_bytes 1) (numbered (new_folder 50) 7)))
+      (formed-kept (new_folder 50) (numbered (new_folder 50) 7) (others-unchecked (new_folder 50) (numbered (new_folder 50) 7) 20 refl refl (outside_write Index 20 (word_bytes 7) (new_folder 50))) new_is_formed));
   index = let i = new_is_bare.index in record {
     head = beside 288 (inr (lit≤ tt)) ∙ i.head;
     tail = beside 308 (inr (lit≤ tt)) ∙ i.tail;
@@ -137,7 +137,7 @@ new_opened_is_bare = record {
 }
 
 new-long : length_of (new_folder 50) Index ≡ 262512
-new-long = whole_index (new_folder 50) new_is_bare.well_formed
+new-long = whole_index (new_folder 50) new_is_formed
 
 new-session : (crash_of (byte new_opened Index) ≡ 1) × (this_id_of (byte new_opened Index) ≡ 7)
 new-session = let long = new-long in (

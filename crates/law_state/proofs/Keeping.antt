@@ -10,7 +10,7 @@ use Rattle.blk_model.specs.Holding.{owner, row_of}
 use Rattle.blk_model.specs.Stops.{is_live_and_settled}
 use Rattle.spec_image.specs.Image.{Image}
 use Rattle.spec_format.specs.Claims.{Claim, BlockOf, ExternalOf, claims_of_all, claims_of, has_claim, is_in_file}
-use Rattle.spec_format.specs.BlockFiles.{is_among}
+use Rattle.spec_format.specs.BlockFiles.{is_among, HasSoundHeaders}
 use Rattle.spec_format.proofs.Finished.{formed-of, well_formed-finished}
 use Rattle.spec_folder.specs.View.{View, list_of, store_of, view_of}
 use Rattle.spec_folder.specs.Loads.{held_rule, listed_rule, Loaded, claims_of_loaded}
@@ -30,38 +30,61 @@ use Rattle.law_folder.proofs.claims.Owner.{IsOwned, owned}
 use Rattle.law_folder.proofs.walks.Shown.{dropped-none, kept-given}
 use Rattle.law_folder.proofs.states.Standing.{claimed-exactly, found-at_rest, held-at_rest, kept-at}
 use Rattle.law_folder.proofs.states.TidyOrder.{tidy-stands}
-use Rattle.law_state.specs.Keeping.{Keeps, all_loaded, words_in_use}
+use Rattle.law_state.specs.Keeping.{AllAreSealed, AreFiles, AreOwners, CountsItems, Keeps, all_loaded, words_in_use}
 use Rattle.law_state.specs.KeepingLaws.{AllAreAtRest, HasMagic, KeptStatesAreHeld, KeptStatesAreFound, KeptStatesAreStoodFor, KeptStatesAreSound}
 
 -- the used blocks of the words in use
 pub used-claims : (unlinked : List ℕ) (ls : List Loaded) → claims_of_all (words_in_use unlinked ls) ≡ claims_of_all unlinked ++ claims_of_loaded ls
 used-claims unlinked ls = flat_map-append claims_of unlinked (flat_map words_of ls) ∙ ap (λ (cs : List Claim). claims_of_all unlinked ++ cs) (all-claims ls)
 
-module _ (state : State) (layout : Layout) (image : Image) (k : Keeps state layout [] image) where
-  exactly : (c : Claim) → has_claim (claims_of_all (words_in_use [] (all_loaded state layout k.entries.numbers))) c ≡ is_some (layout.owner c)
-  exactly c = ap (λ (cs : List Claim). has_claim cs c) (all-claims (all_loaded state layout k.entries.numbers))
-      ∙ claimed-exactly layout k.entries.represents.holds.lies.own k.entries.represents.holds.lies.single state (map layout.place_of_doomed k.entries.numbers) k.entries.owners.exact c
+-- what a folder keeps with nothing unlinked, but for its session
+pub record KeepsOffline (state : State) (layout : Layout) (image : Image) : Type 0 where
+  pub valid : IsValidState state
+  pub sound : HasSoundHeaders image
+  pub represents : Represents (view_of image) state layout
+  pub numbers : List ℕ
+  pub owners : AreOwners state layout numbers
+  pub files : AreFiles image (words_in_use [] (all_loaded state layout numbers))
+  pub sealed : AllAreSealed image layout
+  pub counters : CountsItems image state layout
 
-  allocated : AllIsOwned image state layout k.entries.numbers
+pub offline : (state : State) (layout : Layout) (image : Image) → Keeps state layout [] image → KeepsOffline state layout image
+offline state layout image k = record {
+  valid = k.entries.valid;
+  sound = k.entries.sound;
+  represents = k.entries.represents;
+  numbers = k.entries.numbers;
+  owners = k.entries.owners;
+  files = k.entries.files;
+  sealed = k.entries.sealed;
+  counters = k.counters;
+}
+
+module _ (state : State) (layout : Layout) (image : Image) (k : KeepsOffline state layout image) where
+  exactly : (c : Claim) → has_claim (claims_of_all (words_in_use [] (all_loaded state layout k.numbers))) c ≡ is_some (layout.owner c)
+  exactly c = ap (λ (cs : List Claim). has_claim cs c) (all-claims (all_loaded state layout k.numbers))
+      ∙ claimed-exactly layout k.represents.holds.lies.own k.represents.holds.lies.single state (map layout.place_of_doomed k.numbers) k.owners.exact c
+
+  allocated : AllIsOwned image state layout k.numbers
   allocated = record {
-    blocks = λ n b linked below. (k.entries.files.mapped n linked).allocations.marks b below ∙ same-marks n b (words_in_use [] (all_loaded state layout k.entries.numbers)) ∙ exactly (BlockOf n b);
-    files = λ n small. k.entries.files.externals n small ∙ exactly (ExternalOf n);
-    exact = k.entries.owners.exact;
-    once = k.entries.owners.once;
-    doomed = k.entries.owners.doomed;
+    blocks = λ n b linked below. (k.files.mapped n linked).allocations.marks b below ∙ same-marks n b (words_in_use [] (all_loaded state layout k.numbers)) ∙ exactly (BlockOf n b);
+    files = λ n small. k.files.externals n small ∙ exactly (ExternalOf n);
+    exact = k.owners.exact;
+    once = k.owners.once;
+    doomed = k.owners.doomed;
   }
 
-  tidy : IsTidy image state layout k.entries.numbers
+  tidy : IsTidy image state layout k.numbers
   tidy = record {
-    only_linked = k.entries.files.only_linked;
-    long_enough = k.entries.files.long_enough;
-    counted = λ n linked. let m = k.entries.files.mapped n linked in record { num_entries = m.allocations.counted ∙ length-filter (is_in_file n) (words_in_use [] (all_loaded state layout k.entries.numbers)); empty = m.empty; updating = m.updating };
+    only_linked = k.files.only_linked;
+    long_enough = k.files.long_enough;
+    counted = λ n linked. let m = k.files.mapped n linked in record { num_entries = m.allocations.counted ∙ length-filter (is_in_file n) (words_in_use [] (all_loaded state layout k.numbers)); empty = m.empty; updating = m.updating };
     counts = k.counters;
-    sealed = k.entries.sealed;
+    sealed = k.sealed;
   }
 
   pub stands : HasMagic image → StandsFor image state
-  stands magic = tidy-stands image state layout k.entries.numbers k.entries.represents k.entries.valid allocated (formed-of image k.entries.sound magic) tidy
+  stands magic = tidy-stands image state layout k.numbers k.represents k.valid allocated (formed-of image k.sound magic) tidy
 
 -- ---- where each object is live and clean
 
@@ -161,6 +184,10 @@ module _ (state : State) (layout : Layout) (image : Image) (r : Represents (view
         (subst (λ (ds : List (ℕ × Loaded)). IsInOrder image (kept_by listed_rule (view_of image)) (map (λ (d : ℕ × Loaded). d.1) ds)) no-doomed stood.in_order);
   }
 
+-- whatever the words of the session are
+pub offline-sound : (state : State) (layout : Layout) (image : Image) → KeepsOffline state layout image → HasMagic image → AllAreAtRest state → IsSound image
+offline-sound state layout image k magic at_rest = sound state layout image k.represents k.valid (stands state layout image k magic) at_rest
+
 -- ---- the laws
 
 pub kept-held : KeptStatesAreHeld
@@ -170,7 +197,7 @@ pub kept-found : KeptStatesAreFound
 kept-found state layout unlinked image k magic = found-at_rest image state layout k.represents k.valid (well_formed-finished image (formed-of image k.sound magic))
 
 pub kept-stands : KeptStatesAreStoodFor
-kept-stands state layout image k magic = stands state layout image k magic
+kept-stands state layout image k magic = stands state layout image (offline state layout image k) magic
 
 pub kept-sound : KeptStatesAreSound
-kept-sound state layout image k magic at_rest = sound state layout image k.entries.represents k.entries.valid (stands state layout image k magic) at_rest
+kept-sound state layout image k magic at_rest = offline-sound state layout image (offline state layout image k) magic at_rest

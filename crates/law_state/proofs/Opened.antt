@@ -23,7 +23,8 @@ use Rattle.law_state.specs.KeepingLaws.{OpenedFoldersKeepTheirState}
 use Rattle.law_state.proofs.Counts.{count-beside}
 use Rattle.law_state.proofs.Free.{sealed-same, standing-at}
 use Rattle.law_state.proofs.Headers.{files-same}
-use Rattle.law_state.proofs.Writes.{word-agrees, word-headers, word-kept}
+use Rattle.law_folder.proofs.updates.IndexWords.{others-unchecked}
+use Rattle.law_state.proofs.Writes.{word-agrees, word-headers}
 
 -- the files of a folder in order are those of the words in use
 module _ (image : Image) (state : State) (layout : Layout) (numbers : List ℕ) (r : Represents (view_of image) state layout) (a : AllIsOwned image state layout numbers) (tidy : IsTidy image state layout numbers) where
@@ -60,7 +61,7 @@ opened-kept from between image state layout numbers valid well r a tidy id crash
     represents = represents-outside (λ claim. false) (view_of from) (view_of image) state layout (agreeing-views (λ claim. false) from image agree) (λ claim node is. refl) r;
     numbers = numbers;
     owners = record { exact = a.exact; once = a.once; doomed = a.doomed };
-    files = files-same between image (word-headers between image 32 refl (lit≤ tt) refl refl crash) _ (first.sound well) (files-same from between (word-headers from between 20 refl (lit≤ tt) refl refl id) _ well (files-are from state layout numbers r a tidy));
+    files = files-same between image (word-headers between image 32 refl (lit≤ tt) refl crash) _ (first.sound well) (files-same from between (word-headers from between 20 refl (lit≤ tt) refl id) _ well (files-are from state layout numbers r a tidy));
     unlinked_words = record { stand = tt; free = λ claim e. absurd (let z : false ≡ true = sym (no-claim claim) ∙ e in cc); single = none-repeats };
     sealed = λ node l here. let clear : AreClear (λ claim. false) l = clear-at (λ claim. false) state layout (λ claim node is. refl) r.holds.lies node l here in
         sealed-same (λ claim. false) from image agree l (standing-at from state layout r node l here) clear.node clear.contents (tidy.sealed node l here);
@@ -69,10 +70,10 @@ opened-kept from between image state layout numbers valid well r a tidy id crash
   counters = count-beside between image 32 refl refl crash ∙ count-beside from between 20 refl refl id ∙ tidy.counts;
 } where
   agree : AgreeBut (λ claim. false) from image
-  agree = agreement-goes_on (λ claim. false) from between image (word-agrees from between 20 refl (lit≤ tt) refl refl id) (word-agrees between image 32 refl (lit≤ tt) refl refl crash)
+  agree = agreement-goes_on (λ claim. false) from between image (word-agrees from between 20 refl (lit≤ tt) refl id) (word-agrees between image 32 refl (lit≤ tt) refl crash)
 
   first : KeepsHeaders from between
-  first = word-kept from between 20 refl (lit≤ tt) refl refl id
+  first = others-unchecked from between 20 refl refl id
 
   second : KeepsHeaders between image
-  second = word-kept between image 32 refl (lit≤ tt) refl refl crash
+  second = others-unchecked between image 32 refl refl crash

@@ -7,7 +7,7 @@ use Rattle.spec_image.specs.Image.{Image, Index, Block, External, File, byte, ha
 use Rattle.spec_image.specs.Footprint.{SameOutside, one_word, range, whole, IsWithin}
 use Rattle.spec_image.proofs.Footprints.{same_file_outside, same_word_outside}
 use Rattle.spec_format.specs.Address.{byte_size, file_selector, place}
-use Rattle.spec_format.specs.BlockFiles.{is_among, HasSoundHeaders, KeepsHeaders}
+use Rattle.spec_format.specs.BlockFiles.{is_among, HasSoundHeaders}
 use Rattle.spec_format.specs.Claims.{ExternalOf, claims_of, has_claim, same_claim}
 use Rattle.spec_format.proofs.SpareHeaders.{past_header}
 use Rattle.spec_image.specs.Checks.{first_of}
@@ -94,16 +94,13 @@ hidden at i aligned small out low high = grind (arith, nat_tests)
 apart-from : (at p i : ℕ) → at % 4 ≡ 0 → p % 4 ≡ 0 → (p == at) ≡ false → p ≤ i → i < p + 4 → (nat_le at i && nat_lt i (at + 4)) ≡ false
 apart-from at p i aligned other differs low high = grind (arith, nat_tests)
 
--- a word that is neither shown nor checked
-module _ (from image : Image) (at : ℕ) (aligned : at % 4 ≡ 0) (small : at < 368) (unshown : is_among shown_words at ≡ false) (unchecked : is_among checked_words at ≡ false) (same : SameOutside (one_word Index at) from image) where
+-- a word that is not shown
+module _ (from image : Image) (at : ℕ) (aligned : at % 4 ≡ 0) (small : at < 368) (unshown : is_among shown_words at ≡ false) (same : SameOutside (one_word Index at) from image) where
   pub word-agrees : AgreeBut (λ claim. false) from image
   word-agrees = covered-agrees (one_word Index at) from image (λ claim. false) same (hidden-covered from at 4 (λ i low high. hidden at i aligned small unshown low high))
 
   pub word-headers : SameHeaders from image
   word-headers = record { headers = λ m i below. same.bytes (Block m) i refl; lengths = λ m. same.lengths (Block m) refl; files = λ file. same.files file refl }
-
-  pub word-kept : KeepsHeaders from image
-  word-kept = others-unchecked from image at aligned unchecked same
 
   pub other-word : (p : ℕ) → p % 4 ≡ 0 → (p == at) ≡ false → word image Index p ≡ word from Index p
   other-word p even differs = same_word_outside (one_word Index at) from image Index p same (λ k low high. apart-from at p k aligned even differs low high)
@@ -113,10 +110,10 @@ not-kept at p unkept e = ⊎_elim (λ (t : (p == at) ≡ true). absurd (let z : 
 
 pub index-words : OtherWordsChangeOnly
 index-words from image at aligned small unshown unchecked unkept same = record {
-  agree = word-agrees from image at aligned small unshown unchecked same;
-  headers = word-headers from image at aligned small unshown unchecked same;
-  session = record { crash = other-word from image at aligned small unshown unchecked same 32 refl (not-kept at 32 unkept refl); id = other-word from image at aligned small unshown unchecked same 20 refl (not-kept at 20 unkept refl) };
-  well_formed = word-kept from image at aligned small unshown unchecked same;
+  agree = word-agrees from image at aligned small unshown same;
+  headers = word-headers from image at aligned small unshown same;
+  session = record { crash = other-word from image at aligned small unshown same 32 refl (not-kept at 32 unkept refl); id = other-word from image at aligned small unshown same 20 refl (not-kept at 20 unkept refl) };
+  well_formed = others-unchecked from image at aligned unchecked same;
 }
 
 -- ---- growth

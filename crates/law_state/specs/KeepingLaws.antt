@@ -20,6 +20,10 @@ use Rattle.law_state.specs.Keeping.{IsInSession, KeepsUncounted, Keeps}
 abbrev pub KeptStatesAreHeld : Type 0
 KeptStatesAreHeld = (state : State) (layout : Layout) (unlinked : List ℕ) (image : Image) → KeepsUncounted state layout unlinked image → held image ≡ rest state
 
+-- a word of the index changes
+abbrev pub ChangesWord : ℕ → Image → Image → Type 0
+ChangesWord at from image = SameOutside (one_word Index at) from image
+
 -- the magic word of an initialized index is there
 abbrev pub HasMagic : Image → Type 0
 HasMagic image = magic_of (byte image Index) ≡ index_magic
@@ -40,15 +44,17 @@ AllAreAtRest state = (number : ℕ) → IfSome (object_at state number) (λ obje
 abbrev pub KeptStatesAreSound : Type 0
 KeptStatesAreSound = (state : State) (layout : Layout) (image : Image) → Keeps state layout [] image → HasMagic image → AllAreAtRest state → IsSound image
 
+-- a folder that keeps a state with nothing unlinked, in which each object is live and clean, ends consistent, with the durable contents of the state recovered,
+-- once the crash word is cleared and then the magic word is written: so a folder can be filled before its index is initialized
+abbrev pub KeptStatesEndSound : Type 0
+KeptStatesEndSound = (state : State) (layout : Layout) (from between image : Image) → Keeps state layout [] from → AllAreAtRest state
+    → ChangesWord 32 from between → ChangesWord 0 between image → HasMagic image → IsSound image × (found image ≡ rest state)
+
 -- an empty cache, in which a session is open, keeps the empty state
 abbrev pub FoldersWithoutEntriesKeepTheEmptyState : Type 0
 FoldersWithoutEntriesKeepTheEmptyState = (image : Image) (limits : Bounds) → HasNoEntries image → crash_of (byte image Index) ≡ 1 → this_id_of (byte image Index) ≢ 0 → Keeps (open_state [] limits) no_layout [] image
 
 -- How a session begins.
-
--- a word of the index changes
-abbrev pub ChangesWord : ℕ → Image → Image → Type 0
-ChangesWord at from image = SameOutside (one_word Index at) from image
 
 -- where a folder represents a state, with exact maps and all in order, and the number of the session and then the crash word are written, it keeps the state
 abbrev pub OpenedFoldersKeepTheirState : Type 0

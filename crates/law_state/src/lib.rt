@@ -5,7 +5,7 @@
 ghost use Rattle.law_state.specs.Changes.{HeldIsFound, HeldIsFoundAlong};
 ghost use Rattle.law_state.specs.Commands.{FinishedFoldersMayStop, FinishedFoldersMayStopAlong};
 ghost use Rattle.law_state.specs.Keeping.{KeepsSome};
-ghost use Rattle.law_state.specs.KeepingLaws.{KeptStatesAreHeld, KeptStatesAreFound, KeptStatesAreStoodFor, KeptStatesAreSound, FoldersWithoutEntriesKeepTheEmptyState, OpenedFoldersKeepTheirState};
+ghost use Rattle.law_state.specs.KeepingLaws.{KeptStatesAreHeld, KeptStatesAreFound, KeptStatesAreStoodFor, KeptStatesAreSound, KeptStatesEndSound, FoldersWithoutEntriesKeepTheEmptyState, OpenedFoldersKeepTheirState};
 ghost use Rattle.law_state.specs.TouchLaws.{TouchesFindEither, OpensMayStop};
 ghost use Rattle.law_state.specs.CommandLaws.{RequestsMayStopBefore, RequestsMayStopAfter, RequestsMayStopOnceEvicted, KeptStatesMayStop, SaysKept, NothingMayStop, NothingIsDone, RefusalsAreDone, QuietRequestsKeepTheState, CallsMayStop};
 ghost use Rattle.law_state.specs.ChangeLaws.{WhatIsKeptIsFound, SameCountersCountTheSame, UnlinkedPlacesMayChange, BlockWritesChangeOnly, ExternalWritesChangeOnly, OtherWordsChangeOnly, GrowthFindsTheSame, AllocatedBlocksAreUnlinked, FreedBlocksAreGone, MadeFilesAreUnlinked, DeletedFilesAreGone};
@@ -33,12 +33,13 @@ pub use commands::{
 };
 
 /// The recovered contents of a folder that keeps a state are the durable contents of that state. With nothing unlinked the folder represents the state, and is
-/// consistent where each object is live and clean.
+/// consistent where each object is live and clean; so it is, too, once the session is ended and the index initialized.
 pub fn kept_states_are_stood_for()
     ensures held { KeptStatesAreHeld }
     ensures found { KeptStatesAreFound }
     ensures stands { KeptStatesAreStoodFor }
     ensures sound { KeptStatesAreSound }
+    ensures ends { KeptStatesEndSound }
 {}
 
 /// An empty cache (`HasNoEntries`) in which a session is open keeps the empty state.

@@ -31,7 +31,7 @@ use Rattle.spec_folder.specs.StandsFor.{KeepsDoomed, AreDoomed, ShowsState, Stan
 use Rattle.law_folder.proofs.examples.OneEntry as one
 use Rattle.law_folder.proofs.examples.Premises.{state_is_valid}
 use Rattle.law_folder.proofs.states.Bare.{idle-list, represents-empty, bare-sound, bare-found, bare-stands}
-use Rattle.law_folder.proofs.states.NewFolders.{new_folder, new-bare, new-is_new}
+use Rattle.law_folder.proofs.states.NewFolders.{new_folder, new-bare, new-formed, new-is_new}
 use Rattle.law_folder.proofs.walks.Shown.{kept-given, dropped-none}
 use Rattle.law_folder.proofs.states.Laid.{laid-shown}
 use Rattle.law_folder.proofs.states.Central.{walk-order, none-unlisted, all-shown}
@@ -238,7 +238,7 @@ new-is_empty = bare-found (new_folder 50) (new-bare 50 (new_folder 50) (new-is_n
 
 -- a new folder is consistent
 pub new-is_sound : IsSound (new_folder 50)
-new-is_sound = bare-sound (new_folder 50) (new-bare 50 (new_folder 50) (new-is_new 50))
+new-is_sound = bare-sound (new_folder 50) (new-bare 50 (new_folder 50) (new-is_new 50)) (new-formed 50 (new_folder 50) (new-is_new 50))
 
 -- the view of a new folder represents the empty state
 pub new-is_represented : Represents (view_of (new_folder 50)) (open_state [] some_limits) no_layout
@@ -246,4 +246,4 @@ new-is_represented = represents-empty (new_folder 50) (new-bare 50 (new_folder 5
 
 -- a new folder represents the empty state, with its files, maps and counters
 pub new-stands : StandsFor (new_folder 50) (open_state [] some_limits)
-new-stands = bare-stands (new_folder 50) (new-bare 50 (new_folder 50) (new-is_new 50)) some_limits
+new-stands = bare-stands (new_folder 50) (new-bare 50 (new_folder 50) (new-is_new 50)) some_limits (new-formed 50 (new_folder 50) (new-is_new 50))

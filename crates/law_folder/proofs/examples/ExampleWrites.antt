@@ -18,7 +18,7 @@ use Rattle.spec_format.specs.Headers.{index_length}
 use Rattle.spec_format.specs.BlockFiles.{next_file_in, max_entries_in, files_along, linked, kind_among, IsWellFormed}
 use Rattle.spec_folder.specs.View.{fields_of, entry_at, list_of, store_of, checks_at, node_fields_at, fields_at}
 use Rattle.spec_format.specs.NewFolder.{new_index_words, new_file_words}
-use Rattle.law_folder.proofs.examples.Premises.{new_is_bare}
+use Rattle.law_folder.proofs.examples.Premises.{new_is_formed}
 use Rattle.law_folder.proofs.states.NewFolders.{new_folder}
 use Rattle.law_folder.proofs.examples.SmallFolder.{small_records, folder_with}
 use Rattle.spec_format.specs.Sealed.{AreChanges, IsMidUpdate, RecordChecks, record_at, seal_place, size_by_kind, seal_by_kind, sealed_steps}
@@ -150,4 +150,4 @@ pub last_file_is_written : SameOutside (one_word Index 16) (new_folder 50) (appl
 last_file_is_written = outside_write Index 16 (word_bytes 9) (new_folder 50)
 
 pub it_is_well_formed : IsWellFormed (new_folder 50)
-it_is_well_formed = new_is_bare.well_formed
+it_is_well_formed = new_is_formed

@@ -9,6 +9,7 @@ use Rattle.blk_model.proofs.Times.{times-cons}
 use Rattle.blk_model.proofs.Slots.{owners-cons}
 use Rattle.spec_format.specs.Hash.{of_one, of_bytes, mixed, hash}
 use Rattle.spec_format.specs.Address.{kind_of, block_count, file_selector, first_block, external_number}
+use Rattle.spec_format.specs.BlockFiles.{IsWellFormed}
 use Rattle.spec_format.specs.Storage.{entry_blocks}
 use Rattle.spec_format.specs.Claims.{claims_of, has_claim, overlap, repeats}
 use Rattle.spec_folder.specs.ListView.{ListView, IsAtRest, CanBeInserted}
@@ -22,7 +23,7 @@ use Rattle.law_folder.specs.KeptLaws.{IsDroppedIfLeftOut}
 use Rattle.law_folder.specs.BareLaws.{HasNoEntries}
 use Rattle.law_folder.proofs.examples.OneEntry as one
 use Rattle.law_folder.proofs.examples.DamagedViews.{node, entry, shown, plain_core}
-use Rattle.law_folder.proofs.states.NewFolders.{new_folder, new-is_new, new-bare}
+use Rattle.law_folder.proofs.states.NewFolders.{new_folder, new-is_new, new-bare, new-formed}
 
 -- An idle list of three nodes: the second of them can be removed and accessed, and a fourth be inserted.
 
@@ -78,6 +79,9 @@ both_are_keyed = (refl, refl)
 
 pub new_is_bare : HasNoEntries (new_folder 50)
 new_is_bare = new-bare 50 (new_folder 50) (new-is_new 50)
+
+pub new_is_formed : IsWellFormed (new_folder 50)
+new_is_formed = new-formed 50 (new_folder 50) (new-is_new 50)
 
 -- The state of one object is valid.
 

@@ -10,7 +10,7 @@ use Rattle.spec_format.proofs.Counts.{counts-as, its-version}
 use Rattle.spec_format.specs.Address.{is_address, is_initialized, block_place}
 use Rattle.spec_format.specs.Standing.{stands}
 use Rattle.spec_format.specs.Claims.{has_claim, repeats}
-use Rattle.spec_format.specs.BlockFiles.{max_entries_in}
+use Rattle.spec_format.specs.BlockFiles.{max_entries_in, IsWellFormed}
 use Rattle.spec_format.specs.Maps.{groups_with, groups_of, is_block_marked, EmptyAgrees}
 use Rattle.spec_folder.specs.ListView.{ListView, IsList}
 use Rattle.spec_folder.specs.Walk.{walk}
@@ -111,9 +111,9 @@ module _ (image : Image) (bare : HasNoEntries image) where
     sealed = tt;
   }
 
-  pub bare-sound : IsSound image
-  bare-sound = record {
-    well_formed = bare.well_formed;
+  pub bare-sound : IsWellFormed image → IsSound image
+  bare-sound well = record {
+    well_formed = well;
     transaction = bare.index.transaction;
     list_end = inl (walk-empty, bare.index.head, bare.index.tail);
     chain_ends = chain-end (store_of image) (open_state [] any-limits) no_layout (represents-empty any-limits).holds (empty-valid any-limits);
@@ -132,8 +132,8 @@ module _ (image : Image) (bare : HasNoEntries image) where
     doomed = record { each = tt; once = tt; all = λ number o is dead. absurd (no-object limits number o is); records = λ number among. absurd (let z : false ≡ true = among in cc) };
   }
 
-  pub bare-stands : (limits : Bounds) → StandsFor image (open_state [] limits)
-  bare-stands limits = stands-for image (open_state [] limits) no_layout (represents-empty limits) (empty-valid limits) [] (allocated limits) bare.well_formed (its-version (byte image Index) 0 0 bare.index.counts)
+  pub bare-stands : (limits : Bounds) → IsWellFormed image → StandsFor image (open_state [] limits)
+  bare-stands limits well = stands-for image (open_state [] limits) no_layout (represents-empty limits) (empty-valid limits) [] (allocated limits) well (its-version (byte image Index) 0 0 bare.index.counts)
       (subst (λ (ls : List Loaded). IsInOrder image ls []) (sym (kept-none listed_rule)) in-order)
 
 pub bare-found : FoldersWithoutEntriesHoldNothing

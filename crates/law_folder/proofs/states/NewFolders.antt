@@ -13,10 +13,11 @@ use Rattle.spec_image.proofs.Words.{word-beside, word-there, word-zeros, length-
 use Rattle.spec_format.specs.Address.{block_size, header_size}
 use Rattle.spec_format.specs.Headers.{count_of, counting, field_checks, head_checks, list_checks, index_length, index_magic, index_version, place_of_bucket, table_length}
 use Rattle.spec_format.proofs.Counts.{count-is}
+use Rattle.spec_format.proofs.Finished.{sound-of}
 use Rattle.spec_format.specs.BlockFiles.{next_file_in, max_entries_in, files_along, linked, linked_as, kind_among, is_link, is_block_count, file_checks, checks_along, checks_of_kind, linked_up_to, IsWellFormed}
 use Rattle.spec_folder.specs.View.{list_of}
 use Rattle.spec_format.specs.NewFolder.{new_index_words, new_file_words, IsMade}
-use Rattle.law_folder.specs.BareLaws.{IsIndexWithoutEntries, IsFileWithoutBlocks, HasNoEntries, NewFoldersHaveNoEntries}
+use Rattle.law_folder.specs.BareLaws.{IsIndexWithoutEntries, IsFileWithoutBlocks, HasNoEntries, NewFoldersAreWellFormed, NewFoldersHaveNoEntries}
 
 -- the new folder
 pub new_folder : ℕ → Image
@@ -137,7 +138,7 @@ well-formed moment = refl
 
 bare : (moment : ℕ) → HasNoEntries (new_folder moment)
 bare moment = record {
-  well_formed = well-formed moment;
+  sound = sound-of (new_folder moment) (well-formed moment);
   index = bare-index moment;
   blocks = λ n is. bare-file moment n (ltb-true n 4 (sym (linked-is moment n) ∙ is));
   only_linked = λ n below. there n ∙ sym (linked-is moment n);
@@ -151,6 +152,9 @@ bare moment = record {
 
 pub new-bare : NewFoldersHaveNoEntries
 new-bare moment image new = subst HasNoEntries (sym (is-new moment image new)) (bare moment)
+
+pub new-formed : NewFoldersAreWellFormed
+new-formed moment image new = subst IsWellFormed (sym (is-new moment image new)) (well-formed moment)
 
 -- and the new folder is new
 pub new-is_new : (moment : ℕ) → IsMade moment (new_folder moment)

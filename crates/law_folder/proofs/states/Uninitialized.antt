@@ -1,0 +1,115 @@
+-- A folder without entries stays one where the magic word changes; so a new folder is one before that word is written.
+use Rattle.std.proofs.Common.{◌≡◌, ◌⊎◌, inl, inr, ⊎_elim, ℕ, ◌+◌, ◌*◌, ◌/◌, ◌%◌, ◌^◌, ◌<◌, ◌≤◌, Option, Some, None, refl, sym, ◌∙◌, ap, subst, arith, lit≤, true, false}
+use Rattle.std.specs.Prelude.{is_some, ◌==◌, ◌&&◌, nat_le, nat_lt}
+use Rattle.std.specs.Int.{bit_at}
+use Rattle.std.proofs.lemmas.Bool.{cases_lt, lt-ltb, le-ltb}
+use Rattle.std.proofs.lemmas.Bool.Decides.{nat_tests}
+use Rattle.spec_image.specs.Bytes.{word_at, word_bytes, zeros}
+use Rattle.spec_image.specs.Footprint.{SameOutside, one_word}
+use Rattle.spec_image.specs.Image.{File, Index, Block, External, Image, byte, length_of, has_file, word}
+use Rattle.spec_image.specs.Steps.{with_word}
+use Rattle.spec_image.proofs.Splices.{content-spliced_outside}
+use Rattle.spec_image.proofs.Words.{length-with_words, same-word_at}
+use Rattle.spec_format.specs.Address.{header_size}
+use Rattle.spec_format.specs.BlockFiles.{linked_as, max_entries_in, next_file_in}
+use Rattle.spec_format.specs.Headers.{index_length, index_magic, place_of_bucket}
+use Rattle.spec_format.specs.NewFolder.{HoldsNew, index_without_magic, new_index_words, words_before_magic}
+use Rattle.spec_format.proofs.Counts.{same-count}
+use Rattle.spec_folder.specs.View.{View, view_of}
+use Rattle.law_folder.specs.BareLaws.{IsFileWithoutBlocks, IsIndexWithoutEntries, HasNoEntries, MagicWordsAddNoEntries, UninitializedFoldersHaveNoEntries}
+use Rattle.law_folder.proofs.claims.ByteChanges.{same-links}
+use Rattle.law_folder.proofs.states.NewFolders.{new_folder, new-bare, new-is_new}
+use Rattle.law_folder.proofs.updates.IndexWords.{magic-unchecked, others-hidden, word-still}
+
+module _ (from image : Image) (same : SameOutside (one_word Index 0) from image) (bare : HasNoEntries from) where
+  still : (p : ℕ) → 4 ≤ p → word image Index p ≡ word from Index p
+  still p later = word-still from image 0 same p (inr later)
+
+  views : view_of image ≡ view_of from
+  views = others-hidden from image 0 refl (omega arith) refl same
+
+  index : IsIndexWithoutEntries image
+  index = record {
+    head = ap (λ (v : View). v.list.head) views ∙ bare.index.head;
+    tail = ap (λ (v : View). v.list.tail) views ∙ bare.index.tail;
+    transaction = ap (λ (v : View). v.list.transaction) views ∙ bare.index.transaction;
+    table = λ b below. still (place_of_bucket b) (omega arith) ∙ bare.index.table b below;
+    counts = same-count (byte image Index) (byte from Index) (still 4 (lit≤ tt)) (still 8 (lit≤ tt)) (still 12 (lit≤ tt)) (still 48 (lit≤ tt)) (still 52 (lit≤ tt)) (still 268 (lit≤ tt)) ∙ bare.index.counts;
+  }
+
+  block-word : (n i : ℕ) → word_at (byte image (Block n)) i ≡ word_at (byte from (Block n)) i
+  block-word n i = same-word_at (byte image (Block n)) (byte from (Block n)) i (same.bytes (Block n) i refl) (same.bytes (Block n) (i + 1) refl) (same.bytes (Block n) (i + 2) refl) (same.bytes (Block n) (i + 3) refl)
+
+  next-same : (n : ℕ) → next_file_in image n ≡ next_file_in from n
+  unfolding next_file_in
+  next-same n = λ j. same.bytes (Block n) 10 refl j + 256 * same.bytes (Block n) 11 refl j
+
+  links : (n : ℕ) → linked_as image n ≡ linked_as from n
+  links = same-links from image next-same
+
+  blank : (n : ℕ) → IsFileWithoutBlocks from n → IsFileWithoutBlocks image n
+  unfolding max_entries_in
+  blank n f = record {
+    long_enough = subst (λ (l : ℕ). header_size ≤ l) (sym (same.lengths (Block n) refl)) f.long_enough;
+    allocations = block-word n 16 ∙ f.allocations;
+    max_entries = block-word n 20 ∙ f.max_entries;
+    empty = λ i few. block-word n (24 + 4 * i) ∙ f.empty i few;
+    updating = block-word n 56 ∙ f.updating;
+    map = λ b below. ap (λ (x : ℕ). bit_at x (b % 8) == 1) (same.bytes (Block n) (80 + b / 8) refl) ∙ f.map b below;
+  }
+
+  still-bare : HasNoEntries image
+  still-bare = record {
+    sound = (magic-unchecked from image same).0 bare.sound;
+    index = index;
+    blocks = λ n linked. blank n (bare.blocks n (ap (λ (o : Option ℕ). is_some o) (sym (links n)) ∙ linked));
+    only_linked = λ n below. same.files (Block n) refl ∙ bare.only_linked n below ∙ ap (λ (o : Option ℕ). is_some o) (sym (links n));
+    no_externals = λ n below. same.files (External n) refl ∙ bare.no_externals n below;
+  }
+
+pub magic-adds_none : MagicWordsAddNoEntries
+magic-adds_none from image same bare = still-bare from image same bare
+
+-- the new folder without its magic word
+bare_folder : ℕ → Image
+bare_folder moment Index = Some (index_without_magic moment)
+bare_folder moment (Block n) = new_folder moment (Block n)
+bare_folder moment (External n) = None
+
+is-bare_folder : (moment : ℕ) (image : Image) → HoldsNew 4 (index_without_magic moment) image → image ≡ bare_folder moment
+unfolding bare_folder new_folder
+is-bare_folder moment image new = λ i file. each file i where
+  each : (file : File) → image file ≡ bare_folder moment file
+  each Index = new.index
+  each (Block n) = ⊎_elim
+      (λ (small : n < 4). new.blocks n small ∙ rw (lt-ltb n 4 small) refl)
+      (λ (large : 4 ≤ n). new.others (Block n) (inr (refl, omega arith)) ∙ rw (le-ltb n 4 large) refl)
+      (cases_lt n 4)
+  each (External n) = new.others (External n) (inl (omega arith))
+
+outside-word : (i : ℕ) → (nat_le 0 i && nat_lt i 4) ≡ false → 4 ≤ i
+outside-word i out = grind (arith, nat_tests, out)
+
+-- they differ in that word alone
+differs : (moment : ℕ) → SameOutside (one_word Index 0) (new_folder moment) (bare_folder moment)
+unfolding bare_folder new_folder with_word
+differs moment = record { bytes = bytes; lengths = lengths; files = files } where
+  bytes : (file : File) (i : ℕ) → (one_word Index 0).bytes file i ≡ false → byte (bare_folder moment) file i ≡ byte (new_folder moment) file i
+  bytes Index i out = sym (content-spliced_outside 0 (word_bytes index_magic) (index_without_magic moment) i (inr (outside-word i out)))
+  bytes (Block n) i out = refl
+  bytes (External n) i out = refl
+
+  lengths : (file : File) → (one_word Index 0).sizes file ≡ false → length_of (bare_folder moment) file ≡ length_of (new_folder moment) file
+  lengths Index out = length-with_words (words_before_magic moment) (zeros index_length) ∙ sym (length-with_words (new_index_words moment) (zeros index_length))
+  lengths (Block n) out = refl
+  lengths (External n) out = refl
+
+  files : (file : File) → (one_word Index 0).sizes file ≡ false → has_file (bare_folder moment) file ≡ has_file (new_folder moment) file
+  files Index out = refl
+  files (Block n) out = refl
+  files (External n) out = refl
+
+pub uninitialized-bare : UninitializedFoldersHaveNoEntries
+uninitialized-bare moment image new =
+    subst HasNoEntries (sym (is-bare_folder moment image new))
+    (magic-adds_none (new_folder moment) (bare_folder moment) (differs moment) (new-bare moment (new_folder moment) (new-is_new moment)))
