@@ -17,5 +17,6 @@ pub mod Settling
 pub mod Standing
 pub mod StoodFor
 pub mod TidyOrder
+pub mod Uninitialized
 pub mod Tidying
 pub mod Writing

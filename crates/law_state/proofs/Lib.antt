@@ -4,6 +4,7 @@ pub mod Headers
 pub mod Free
 pub mod Writes
 pub mod Opened
+pub mod Ended
 pub mod Examples
 pub mod Orders
 pub mod NotAtRest

@@ -20,7 +20,7 @@ use Rattle.spec_format.specs.NewFolder.{new_index_words, new_file_words, IsMade}
 use Rattle.law_folder.specs.BareLaws.{IsIndexWithoutEntries, IsFileWithoutBlocks, HasNoEntries, NewFoldersAreWellFormed, NewFoldersHaveNoEntries}
 
 -- the new folder
-pub new_folder : ℕ → Image
+unfoldable pub new_folder : ℕ → Image
 new_folder moment Index = Some (with_words (new_index_words moment) (zeros index_length))
 new_folder moment (Block n) = if nat_lt n 4 then Some (with_words (new_file_words n) (zeros header_size)) else None
 new_folder moment (External n) = None
