@@ -281,7 +281,7 @@ FoundRowsGoByOneList = (from image : Image) (opened state : State) (commands : L
     → CrashesIn from image opened state commands steps command → (count : ℕ) × (count ≤ length (list_steps state command.moment command.request))
     × GoBy state (list_after state command.moment command.request count) (found image)
 
--- a command evicts an item alone: the item is a part, and one of the groups that the command evicts
+-- a command evicts an item alone: the item is a part, and one of the eviction units that the command evicts
 abbrev pub IsEvictedAlone : State → Stamped → Item → Type 0
 IsEvictedAlone state command (main key) = ⊥
 IsEvictedAlone state command (part key n) = Contains (outcome_in state command).groups (single key n)
@@ -310,8 +310,8 @@ StatesOfRunsAreValid = (from : Image) (opened : State) (commands : List Stamped)
 
 -- Replies.
 
--- a command is answered where a run broke off: more was printed than the texts of the iterations before it and what may be out before its note, so a part of its
--- reply
+-- a command is answered where a run broke off: more was printed than the texts of the iterations before it and what may be out before its note, so a part of
+-- its reply
 pub record IsReplyOut (turns : List Turn) (printed : List ℕ) (before : List Turn) (command : Stamped) : Type 0 where
   pub turn : Turn
   pub behind : List Turn
