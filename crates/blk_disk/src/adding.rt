@@ -79,7 +79,7 @@ impl BlockFiles {
         (nodes_and_small + large) as u8
     }
 
-    // The last file of a kind, or its first where none is kept.
+    // The last file of a kind, or the number of its first where the table has none.
     #[tactic(auto, unfolding(crate::specs::Growth::last_file))]
     fn last_file(&self, kind: Kind) -> u8
         requires { kind_number kind ≢ external }

@@ -63,7 +63,7 @@ pub record IsChangedUnused (state : State) (old : Layout) (unlinked : List ℕ) 
 
 -- The order of its writes.
 
--- the data of the piece is written before the bitmap: at some moment between, the folder keeps the state in which the part has the new bytes and its old
+-- the data of the piece is written before the bitmap: after some step between, the folder keeps the state in which the part has the new bytes and its old
 -- bitmap; before and after that, recovery gives the old durable contents
 pub record IsDataBeforeMap (state : State) (unlinked : List ℕ) (number : ℕ) (object : Object) (n place : ℕ) (piece : List ℕ) (old new : Told) : Type 0 where
   pub between : Told

@@ -90,7 +90,7 @@ NewPartsEnd = (view : View) (state : State) (objects : List (Option Object)) (la
     → (store : StoreView) → IsMidPart store layout key loaded (with_new_part layout key n seen loaded).chains → load store (rule_of layout (layout.place (main key))) (layout.place (main key)) ≡ Ok seen
     → Represents (record { list = after_writes (writes_of insert loaded.node view.list) view.list; store = store }) (with_first state objects (part key n)) (with_new_part layout key n seen loaded)
 
--- The moments between.
+-- While a part is added.
 
 -- once a new part's record is linked, all other nodes still load as before
 abbrev pub NewPartsAreLinked : Type 0
