@@ -59,7 +59,7 @@ pub fn write<F: Folder>(
     // before.
     ensures written { OnOk result (ForSome (F.told f.old).files (λ from. CanBeWritten files.old entry stream (writes.size_after cut (size_word from entry stream) offset (length bytes.now)) from → ForSome (F.told f.new).files (StreamIsWritten files.old files.new entry stream offset cut bytes.now from))) }
 
-    // The stream was written where it lies; or a new place was taken and filled, then the record named it, and then the old one was freed.
+    // The stream was written where it lies; or a new place was allocated and filled, then the record named it, and then the old one was freed.
     ensures staged { OnOk result (ForSome (F.told f.old).files (λ from. CanBeWritten files.old entry stream (writes.size_after cut (size_word from entry stream) offset (length bytes.now)) from → ForSome (F.told f.new).files (IsWrittenByStage files.old files.new entry stream (writes.size_after cut (size_word from entry stream) offset (length bytes.now)) offset bytes.now from))) }
 
     ensures sealed { OnOk result (ForSome (F.told f.old).files (λ from. CanBeWritten files.old entry stream (writes.size_after cut (size_word from entry stream) offset (length bytes.now)) from → ForSome (F.told f.new).files (KeepsSeal entry from))) }
