@@ -34,7 +34,7 @@ impl<R: Files<File = File> + AllocGlobal + Clone + Drop> RealFolder<R> {
         })
     }
 
-    /// Closes the files and lets the folder go.
+    /// Closes the files and releases the folder's lock.
     ///
     /// The names of the files that are open are asked once more: that of an external file was asked when another took its place.
     ///

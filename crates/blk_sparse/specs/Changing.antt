@@ -20,7 +20,7 @@ use Rattle.blk_object.specs.Owning.{LoadsWith}
 use Rattle.blk_ranges.specs.PartMaps.{presence_in}
 use Rattle.blk_sparse.specs.SparseObjects.{CanGetParts, HasPartAt, KeepsParent, OthersLieAsBefore, with_piece}
 
--- the bytes are an index of a part, with the bitmap of an old index and the bytes from `from` to `to` marked as valid in it
+-- the bytes are an index of a part, with the bitmap of an old index and the bytes from `from` to `to` marked as present in it
 pub record NotesWrite (old : PartIndex) (from to : ℕ) (bytes : List ℕ) : Type 0 where
   pub index : PartIndex
   pub is : read_part_index bytes ≡ Some index

@@ -1,4 +1,4 @@
-// The valid bytes of an object, read from its parts; nothing is changed.
+// The present bytes of an object, read from its parts; nothing is changed.
 ghost use Rattle.std.specs.Prelude.{◌≡◌, ◌≤◌, ◌<◌, ◌+◌, IfOk, IsTrue, None, length};
 ghost use Rattle.std.specs.Int.{cast_unsigned, w64};
 ghost use Rattle.std.specs.Option.{ForSome};
