@@ -42,7 +42,7 @@ pub(crate) enum Usable<T> {
 
 /// Redoes the operation in flight, if there is one, and ends its transaction.
 ///
-/// An operation counts where its code is that of an insert, a removal or a move, and its node and the nodes that it goes by are there with checksums that match
+/// An operation counts where its code is that of an insert, a removal or a move, and its node and the nodes that it uses are there with checksums that match
 /// or are absent: the first one for an insert and a move, and those beside the node for a removal and a move. One that doesn't count is given up: its
 /// transaction alone ends. Where there is none in flight nothing is written. The list need not be whole. This takes at most 34 folder calls.
 pub fn complete<F: Folder>(f: &mut F, files: &BlockFiles) -> Result<(), Fault>

@@ -70,7 +70,7 @@ pub fn write<F: Folder>(
     // was until the record names the new one, which then has the bytes.
     ensures stops { ForSome (F.told f.old).files (λ from. CanBeWritten files.old entry stream (writes.size_after cut (size_word from entry stream) offset (length bytes.now)) from → Passes (F.told f.old) (F.told f.new) (WritesStream files.old entry stream (writes.size_after cut (size_word from entry stream) offset (length bytes.now)) offset cut bytes.now from)) }
 
-    // At each word one of these stages is on its way: what was done before it is done, and of what comes after it nothing is.
+    // At each word one of these stages is under way: what was done before it is done, and of what comes after it nothing is.
     ensures stages { ForSome (F.told f.old).files (λ from. CanBeWritten files.old entry stream (writes.size_after cut (size_word from entry stream) offset (length bytes.now)) from → Passes (F.told f.old) (F.told f.new) (WritesByStage files.old files.new entry stream (writes.size_after cut (size_word from entry stream) offset (length bytes.now)) offset bytes.now from)) }
 
     ensures damaged { IfDamaged result (IsWriteDamage files.old files.new (F.told f.old) (F.told f.new) entry stream) }

@@ -269,13 +269,13 @@ abbrev pub Precedes : {X : Type 0} → List X → X → X → Type 0
 Precedes [] one other = ⊥
 Precedes (x ∷ xs) one other = ((x ≡ one) × Contains xs other) ⊎ Precedes xs one other
 
--- rows go by a list: they are of items in it, with an item of an object there are all those of that object in the list, and they have its order
+-- rows follow a list: they are of items in it, with an item of an object there are all those of that object in the list, and they have its order
 pub record GoBy (state : State) (list : List Item) (rows : List Row) : Type 0 where
   pub listed : (row : Row) → Contains rows row → Contains list (item_of row)
   pub together : (row : Row) (item : Item) → Contains rows row → owner state item ≡ owner state (item_of row) → Contains list item → HasItsRow state rows item
   pub in_order : (one other : Row) → Contains rows one → Contains rows other → Precedes list (item_of one) (item_of other) → Precedes rows one other
 
--- what is found goes by one list: the LRU list after so many of the command's steps on it
+-- what is found follows one list: the LRU list after so many of the command's steps on it
 abbrev pub FoundRowsGoByOneList : Type 0
 FoundRowsGoByOneList = (from image : Image) (opened state : State) (commands : List Stamped) (steps : List TrailStep) (command : Stamped)
     → CrashesIn from image opened state commands steps command → (count : ℕ) × (count ≤ length (list_steps state command.moment command.request))
