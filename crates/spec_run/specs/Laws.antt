@@ -100,7 +100,7 @@ abbrev pub ErrorsArePlayed : Type 0
 ErrorsArePlayed = (script : Script) (state : State) (clock : Readings) (made : List Turn) (text : List ℕ) (next : Script) (now : State) (readings : Readings)
     → IsPlayed script state clock made (errs text next) now readings → IsPlayed script state clock (made ++ error_turn text ∷ []) next now readings
 
--- where something is turned away next, a script is played on by its iteration, which takes a reading of the clock
+-- where something is rejected outside the cache next, a script is played on by its iteration, which takes a reading of the clock
 abbrev pub RefusalsOutsideArePlayed : Type 0
 RefusalsOutsideArePlayed = (script : Script) (state : State) (clock : Readings) (made : List Turn) (text : List ℕ) (next : Script) (now : State) (readings : Readings)
     → IsPlayed script state clock made (turns_away text next) now readings → IsPlayed script state clock (made ++ away_turn text ∷ []) next now (later_of readings)
@@ -139,16 +139,16 @@ AskedCommandsAreNext = (script : Script) (found : List Row) (limits : Bounds) (r
     → IsPlayed script (open_state found limits) (later_of readings) made (asks request shown next) now readings_now
     → (more : List Stamped) × (commands (run_of script found limits readings) ≡ commands_of made ++ stamped_by readings_now request ∷ more)
 
--- where a script turns nothing away the clock is read once for each command and for nothing else, in each prefix of its iterations
+-- where a script rejects nothing outside the cache, the clock is read once for each command and for nothing else, in each prefix of its iterations
 abbrev pub ClockIsReadForCommands : Type 0
 ClockIsReadForCommands = (script : Script) → TurnsNoneAway script → (count : ℕ) (state : State) (clock : Readings)
     → readings_of (take count (turns script state clock)) ≡ length (commands_of (take count (turns script state clock)))
 
--- the script of a session's lines turns nothing away
+-- the script of a session's lines rejects nothing outside the cache
 abbrev pub LinesTurnNoneAway : Type 0
 LinesTurnNoneAway = (number : ℕ) (texts : List (List ℕ)) → TurnsNoneAway (session_script number texts)
 
--- the scripts of the other subcommands turn nothing away: commands up to the first that is refused, the totals, and `put`
+-- the scripts of the other subcommands reject nothing outside the cache: commands up to the first that is refused, the totals, and `put`
 abbrev pub FixedScriptsTurnNoneAway : Type 0
 FixedScriptsTurnNoneAway = ((requests : List Request) → TurnsNoneAway (until_refused requests)) × (TurnsNoneAway count_script × ((key : List ℕ) (stream : ℕ) (bytes : List ℕ) → TurnsNoneAway (put_script key stream bytes)))
 
