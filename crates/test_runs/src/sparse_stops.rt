@@ -124,7 +124,7 @@ fn stopped(f: &MemFolder, steps: u64) -> Result<MemFolder, NoMemory> {
     }
 }
 
-// Audits a folder. Gives what it holds.
+// Checks a folder. Gives what it holds.
 fn held(alloc: Global, f: &mut SilentFolder<MemFolder>) -> Result<Held, ScanFault> {
     let scan = audited(alloc, f)?;
     Ok((scan.items(), scan.bytes(), found(f, &scan)?))
