@@ -142,7 +142,7 @@ crossed_unlisted : (unlisted_in crossed 0x3EBF ≡ []) × (unlisted_in crossed 0
 unfolding crossed in_three is_unlisted walk walk_from chain_from
 crossed_unlisted = (refl, refl, refl)
 
--- a list in a ring is walked once around
+-- a list that is a loop is walked once around
 ring : View
 ring = shown 0x90000000 0 ((0x90000000, node 0x90000001 0x90000000 0) ∷ (0x90000001, node 0x90000000 0x90000000 0) ∷ []) []
 
