@@ -3,7 +3,7 @@ use Rattle.std.proofs.Common.{◌≢◌, ℕ, ◌+◌, ◌%◌, ◌<◌, ◌≤�
 use Rattle.std.proofs.lemmas.Grind.{common_steps}
 use Rattle.spec_format.specs.Address.{is_address, is_initialized, names_external, names_blocks, kind_of, first_block, block_count, file_selector, external}
 
--- the type of an address is at most 4
+-- the kind of an address is at most 4
 pub kind_of_address : (w : ℕ) → IsTrue (is_address w) → kind_of w ≤ 4
 unfolding is_address names_external names_blocks
 kind_of_address w h = grind (arith, common_steps)

@@ -122,7 +122,7 @@ first_absent claims w address kind absent =
     none_at_first (has_bit claims.blocks.bytes.items) (file_selector w * 65536 + first_block w) (block_count w) (block_count_above_0 w)
     (sym run ∙ ap (list_any (contains_claim claims)) (sym claims_are) ∙ absent)
 
--- a fact holds where it is owed after an error alone
+-- a fact that holds in any case holds after an error
 pub after_err : {T E P : Type 0} (r : Result T E) → P → OnErr r P
 after_err (Ok x) p = tt
 after_err (Err e) p = p

@@ -147,7 +147,7 @@ added_file files image k block_kind agrees few least =
         ∙ other-word made (Block (last_file files (suc p))) (Block n) 10 (n % 256 ∷ n / 256 % 256 ∷ []) (other_file (last_file files (suc p)) n (λ e. last_apart files image p small agrees room least (sym e)))
         ∙ ap (λ (i : Image). i (Block n)) (made_is (suc p) n image) ∙ with_file-same image (Block n) (Some (new_header (suc p) n))
 
--- a file that was added has true counters
+-- a file that was added has counters that agree with its map
 pub added_counters : (files : BlockFiles) (image : Image) (k : Kind) → kind_number k ≢ 0 → Agrees files image → length (files_of files (kind_number k)) < 60 → IsLeastFileNumber files (free_number files)
     → HasCounters (after (add_steps files (kind_number k)) image) (free_number files)
 added_counters files image k block_kind agrees few least = new_counters (after (add_steps files (kind_number k)) image) (kind_number k) (free_number files) (added_file files image k block_kind agrees few least)

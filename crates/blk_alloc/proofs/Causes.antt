@@ -13,7 +13,7 @@ use Rattle.blk_alloc.specs.Owning.{IsCause}
 none_some : {image : Image} → None ≡ Some image → ⊥
 none_some {image} e = cc
 
--- a cause at a later moment is one at the start, where the folder was opaque then
+-- a cause after some steps is one at the start, where the folder was opaque then
 pub cause_before : (later before : Told) (n start count : ℕ) (used : Bool) (damage : Damage) → before.files ≡ None → IsCause later n start count used damage → IsCause before n start count used damage
 cause_before later before n start count used damage none =
     ⊎_elim

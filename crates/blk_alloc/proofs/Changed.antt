@@ -226,7 +226,7 @@ module _ (from : Image) (n start count : ℕ) (used : Bool) (plan : Plan) (long 
     updating = ap (λ (l : List ℕ). updating_of (content l)) bytes_are ∙ updating_is plan (start / 32) is.at few (bytes_of from f) long;
   }
 
-  -- what a prefix of the plan's words leaves at each moment
+  -- what each prefix of the plan's words leaves
   pub change_stops : {a b : Told} → a.files ≡ Some from → AppliesPrefix a b (word_steps f (plan_words plan)) → PassesTo a b (IsMapInProgress n from) (λ i. IsMapInProgress n from i ⊎ IsChanged from n start count used i)
   change_stops {a} {b} there part =
       let Q : Image → Type 0 = λ i. IsMapInProgress n from i ⊎ IsChanged from n start count used i in

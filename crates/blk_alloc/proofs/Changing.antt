@@ -145,7 +145,7 @@ module _ (n : ℕ) (plan : Plan) (low : 80 ≤ plan.at) (high : plan.at + 4 ≤ 
   marked_begun : (from : Image) → 8192 ≤ length_of from file → Marked (bytes_of (begun from) file)
   marked_begun from long = ap (λ (b : List ℕ). word_at (content b) 56) (bytes_of-written from file 56 (word_bytes 1)) ∙ unfold with_word in word-there 56 1 (bytes_of from file) (lit< tt) (omega (arith, long))
 
-  -- at each moment before the last word the change is under way
+  -- before the last word is written the change is under way
   midst_along : (from : Image) → 8192 ≤ length_of from file → Until (IsMapInProgress n from) (IsMapInProgress n from) (begun from) (word_steps file (inner_words plan))
   midst_along from long =
       let both : Until (λ i. SameOutside (map_of n) from i × Marked (bytes_of i file)) (λ i. SameOutside (map_of n) from i × Marked (bytes_of i file)) (begun from) (word_steps file (inner_words plan)) =

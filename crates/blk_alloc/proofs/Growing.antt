@@ -1,4 +1,4 @@
--- A file that grows: its new groups are free, and its counters go on being true.
+-- A file that grows: its new groups are free, and its counters still agree with its map.
 use Rattle.std.proofs.Common.{◌≡◌, ◌≢◌, ℕ, zero, suc, ◌+◌, ◌*◌, ◌/◌, ◌%◌, ◌<◌, ◌≤◌, ◌⊎◌, inl, inr, List, [], ◌∷◌, max, Bool, true, false, ◌&&◌, ◌||◌, nat_le, nat_lt, refl, sym, ◌∙◌, ap, ap₂, subst, arith, ⊎_elim}
 use Rattle.std.specs.Prelude.{◌==◌}
 use Rattle.std.specs.List.{All, count_by, range_with_len}
@@ -122,7 +122,7 @@ more_groups from mid n more was kept free total empty last i small =
     all ∙ ap (λ (k : ℕ). count_by q (range_with_len 0 k)) (sym total))
     (cases_lt i 3)
 
--- A linked file whose counters are true grows.
+-- A linked file whose counters agree with its map grows.
 module _ (old new : BlockFiles) (from mid : Image) (n : ℕ) (agrees : Agrees old from) (agrees_new : Agrees new mid) (among : is_among (all_files old) n ≡ true)
     (enlarges : Enlarges old new n (grown (blocks_of old n)) (max (length_in old n) (grown_length old n))) (below : blocks_of old n < most_blocks)
     (whole : max_entries_in from n % 4 ≡ 0) (same : SameOutside (growth_of n) from mid) (raise : empty_of (byte mid (Block n)) 3 ≡ raised from n (new_groups (blocks_of old n)))
@@ -154,7 +154,7 @@ module _ (old new : BlockFiles) (from mid : Image) (n : ℕ) (agrees : Agrees ol
   unfolding EmptyAgrees groups_with
   few = let is = empty 3 (omega arith) in let most = counted_most (λ g. longest_run (is_block_marked from n) g == 4) 0 (groups_of (max_entries_in from n)) in omega (arith, is, most, blocks_before, below)
 
-  -- the counters are true
+  -- the counters agree with the map
   pub grown_empty : EmptyAgrees mid n
   grown_empty =
       more_groups from mid n (new_groups (blocks_of old n)) empty

@@ -1,4 +1,4 @@
--- The map and the counters of one file, made those of the used blocks: at each moment, and in the end.
+-- The map and the counters of one file, made those of the used blocks: after each write, and in the end.
 use Rattle.std.proofs.Common.{◌≡◌, ℕ, zero, suc, ◌+◌, ◌-◌, ◌*◌, ◌/◌, ◌%◌, ◌<◌, ◌≤◌, ◌⊎◌, inl, inr, List, length, Bool, true, false, ◌&&◌, ◌||◌, nat_le, nat_lt, take, drop, refl, sym, ◌∙◌, ap, subst, arith, ⊎_elim}
 use Rattle.std.specs.Prelude.{◌==◌, slice_index}
 use Rattle.std.specs.Int.{bit_at}

@@ -18,7 +18,7 @@ module _ (image : Image) (n start count : ℕ) (used : Bool) (ready : CanChangeM
   pub group_there : start / 4 < groups_of (max_entries_in image n)
   group_there = let whole = ready.whole in let below = ready.below in omega (arith, whole, below, some)
 
-  -- true counters may move
+  -- counters that agree with the map may move
   pub may_move : (counters : Counters) (before later : ℕ) → AreCounters (byte image (Block n)) counters → before ≡ longest_run (is_block_marked image n) (start / 4) → MayMoveRun counters before later used
   unfolding groups_with EmptyAgrees
   may_move counters before later are is = record {

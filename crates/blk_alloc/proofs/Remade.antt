@@ -34,7 +34,7 @@ rebuilt_bytes claims a b n same rebuilt =
 pub rebuilt_same : (claims : Claims) (a b : Image) (n : ℕ) → b (Block n) ≡ a (Block n) → IsRebuilt claims a n → IsRebuilt claims b n
 rebuilt_same claims a b n same = rebuilt_bytes claims a b n (λ i. ap (λ (o : Option (List ℕ)). content (unwrap_or o []) i) same)
 
--- a file that is as it was is in hand as it was
+-- a file that is as it was is as far in its rebuild as it was
 pub in_hand_same : (claims : Claims) (n : ℕ) (from a b : Image) → b (Block n) ≡ a (Block n) → IsInHand claims n from a → IsInHand claims n from b
 in_hand_same claims n from a b same (inl keeps) = inl (λ i beside. ap (λ (o : Option (List ℕ)). content (unwrap_or o []) i) same ∙ keeps i beside)
 in_hand_same claims n from a b same (inr (inl one)) = inr (inl (ap (λ (o : Option (List ℕ)). updating_of (content (unwrap_or o []))) same ∙ one))

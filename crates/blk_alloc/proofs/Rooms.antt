@@ -57,7 +57,7 @@ sum_member f n (k ∷ files) among =
     (λ there. let rest = sum_member f n files there in omega (arith, sum, rest))
     (or_true (k == n) (is_among files n) among)
 
--- a file of a counted kind has true counters
+-- a file of a counted kind has counters that agree with its map
 pub has_counters : (files : BlockFiles) (image : Image) (kind n : ℕ) → AreCounted files kind image → is_among (files_of files kind) n ≡ true → HasCounters image n
 has_counters files image kind n counted among =
     let has = counted.each n among in

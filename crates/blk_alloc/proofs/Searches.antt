@@ -112,7 +112,7 @@ module _ (image : Image) (n number w : ℕ) (is : IsMapWord image n number w) wh
       longest_run-same (has_bit (word_bytes w)) (is_block_marked image n) i (8 * number + i)
       (λ j few. word_bits (4 * i + j) (omega (arith, small, few)) ∙ ap (is_block_marked image n) {x = 32 * number + (4 * i + j)} {y = 4 * (8 * number + i) + j} (omega arith))
 
--- a run that a true counter counts is one of some group
+-- a run that a counter counts, which agrees with the map, is one of some group
 pub counted_somewhere : (image : Image) (n i : ℕ) → EmptyAgrees image n → i < 4 → 0 < empty_of (byte image (Block n)) i → ((g : ℕ) → g < groups_of (max_entries_in image n) → longest_run (is_block_marked image n) g ≢ i + 1) → ⊥
 unfolding EmptyAgrees groups_with
 counted_somewhere image n i agrees small some none =
@@ -133,7 +133,7 @@ longest_most p g = go (has_run p g 4) (has_run p g 3) (has_run p g 2) (has_run p
     go false false false true = omega arith
     go false false false false = omega arith
 
--- where true counters count no run of so many blocks, no group has them at its start
+-- where counters that agree with the map count no run of so many blocks, no group has them at its start
 pub none_at_front : (image : Image) (n count g : ℕ) → count ≤ 4 → 0 < count → EmptyAgrees image n → HasNoRoom image count n → g < groups_of (max_entries_in image n) → is_place (is_block_marked image n) count (4 * g) ≡ false
 unfolding EmptyAgrees groups_with
 none_at_front image n count g few some agrees none there = is_false (is_place p count (4 * g)) never

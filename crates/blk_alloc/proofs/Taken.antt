@@ -84,7 +84,7 @@ updating_quiet n = within-trans (one_word (Block n) 56) (hints_and_updating n) (
 pub hints_quiet : (n : ℕ) → IsWithin (hints_of_file n) (quiet_of n)
 hints_quiet n = within-trans (hints_of_file n) (hints_and_updating n) (quiet_of n) (within_left (hints_of_file n) (one_word (Block n) 56)) (within_right (size_of (Block n)) (hints_and_updating n))
 
--- a moment after the file was lengthened
+-- the files once the file was lengthened
 pub taking_fit : (n : ℕ) (from mid : Image) → SameOutside (size_of (Block n)) from mid → length_of from (Block n) ≤ length_of mid (Block n) → MarksUsedInProgress n from mid
 taking_fit n from mid same grows = record {
   longer = grows;

@@ -108,7 +108,7 @@ module _ (n i : ℕ) (small : i < 4) (from mid : Image) (same : SameOutside (one
         free = (λ j. are_free (λ b. marks place.file b j) place.start place.count) ∙ can.free;
       }
 
-  -- a moment after the hint was set
+  -- the files once the hint was set
   pub hinted_moment : MarksUsedInProgress n from mid
   hinted_moment = record {
     same = outside_wider hint (taking_of n) from mid (within-trans hint (hints_of_file n) (taking_of n) (hint_among n i small) (hints_taken n)) same;
@@ -116,7 +116,7 @@ module _ (n i : ℕ) (small : i < 4) (from mid : Image) (same : SameOutside (one
     updating = inr (outside_wider hint (quiet_of n) from mid (within-trans hint (hints_of_file n) (quiet_of n) (hint_among n i small) (hints_quiet n)) same);
   }
 
-  -- a moment while the blocks are marked
+  -- the files while the blocks are marked
   pub marked_moment : (image : Image) → MarksUsedInProgress n mid image → MarksUsedInProgress n from image
   marked_moment image midst =
       let first = hinted_moment in

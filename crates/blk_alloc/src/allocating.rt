@@ -141,7 +141,7 @@ fn allocate_new<F: Folder, L: Ledger>(
     take(folder, files, kind, found)
 }
 
-/// Gives 1 to 4 blocks of a block kind, or 1 of `Rankings`, that had no owner, marks them, and counts the words of maps that are read.
+/// Allocates 1 to 4 free blocks of a block kind, or 1 of `Rankings`: they are marked as used. The words of maps that are read are counted.
 ///
 /// They lie inside one group of four. The files of the kind are tried in the order of their links. By its counters a file has space where some group has a
 /// longest free run of as many blocks or more. The shortest such run is sought, from the group at its hint on and round to the start; the first group that has
@@ -150,8 +150,8 @@ fn allocate_new<F: Folder, L: Ledger>(
 ///
 /// A failed check is a read of a file's header that gave too few bytes, a counter that would leave its range or that
 /// counts a group which one round of the map doesn't have, or 60 full files of the kind; then it finds the last word of
-/// the last map. Where the files of the kind have true counters and at most 655362 allocations, all of these need an
-/// opaque folder.
+/// the last map. Where the files of the kind have counters that agree with their maps, and at most 655362 allocations, only an
+/// opaque folder gives one of these.
 pub fn allocate_counted<F: Folder, L: Ledger>(
     f: &mut F,
     files: &mut BlockFiles,

@@ -17,7 +17,7 @@ use blk_io::{Fault, Folder};
 /// Frees the blocks of an address: their marks in the map are cleared, and the counters of the file follow.
 ///
 /// A failed check is a read of the file's header that gave too few bytes, or a counter that would leave its range, and
-/// nothing is written then. Where the address is one of the allocations of its file, both need an opaque folder.
+/// nothing is written then. Where the address is one of the allocations of its file, only an opaque folder gives either.
 pub fn free<F: Folder>(f: &mut F, files: &BlockFiles, addr: Addr) -> Result<(), Fault>
     requires stands { IsTrue (stands_among files.now addr) }
     requires agrees { ForSome (F.told f.old).files (Agrees files.now) }

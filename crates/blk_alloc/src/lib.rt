@@ -1,4 +1,4 @@
-//! Blocks that nobody owns: they are given, freed, and the maps that say which they are made anew.
+//! The allocation of blocks: free blocks are allocated, allocated ones are freed, and the maps that mark the used ones are rebuilt.
 #![tactic(auto)]
 
 mod allocating;

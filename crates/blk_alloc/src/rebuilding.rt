@@ -169,7 +169,7 @@ fn rebuild_file<F: Folder>(
 /// Before that, a file that is shorter than its header and blocks is lengthened to them. Of a header, which is read by
 /// two calls, only words that differ from what they have to be are written, each by a call of its own: of map and
 /// counters at most 2033, and around them `updating`, which is 1 from before the first of them to after the last. A
-/// failed check is a read of a header that gave too few bytes, which needs an opaque folder.
+/// failed check is a read of a header that gave too few bytes, which only an opaque folder does.
 pub fn rebuild<F: Folder>(f: &mut F, files: &mut BlockFiles, claims: &Claims) -> Result<(), Fault>
     requires agrees { ForSome (F.told f.old).files (Agrees files.old) }
     // In any case the same files are linked, and what was valid still is.

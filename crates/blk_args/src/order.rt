@@ -29,7 +29,7 @@ pub enum Order<'w> {
     Get { key: &'w [u8], stream: u8 },
     /// `put KEY STREAM`: the input is written to a stream.
     Put { key: &'w [u8], stream: u8 },
-    /// `doom KEY`: the object with the key goes.
+    /// `doom KEY`: the entry with the key is doomed.
     Doom { key: &'w [u8] },
     /// `trim BYTES`: items are evicted until so many bytes are left.
     Trim { bytes: u64 },

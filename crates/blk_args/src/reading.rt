@@ -28,8 +28,8 @@ pub struct Asked<'w> {
     pub limits: Limits,
 }
 
-/// What the arguments ask for, or `None` where they are no arguments of the command line. It fails when out of memory,
-/// and then they are.
+/// What the arguments ask for, or `None` where they are no arguments of the command line. It fails only when out of memory,
+/// and only on arguments of the command line: others are found without memory.
 ///
 /// The options `--max` and `--items` may come anywhere before an argument `--`, each once; after it all arguments are
 /// positional.

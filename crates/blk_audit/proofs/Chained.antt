@@ -103,7 +103,7 @@ module _ (store : StoreView) (bucket : ℕ) where
     ),
   )
 
-  -- a chain on its way: what was reached, and what is to come from a word on
+  -- a chain under way: what was reached, and what is to come from a word on
   pub record IsFollowed (old : List ℕ) (start : ℕ) (reached : List ℕ) (left word : ℕ) : Type 0 where
     pub all : old ++ reached_from most_records [] start ≡ reached ++ reached_from left (map file_and_block reached) word
     pub last : end_from most_records [] start ≡ end_from left (map file_and_block reached) word

@@ -1,4 +1,4 @@
--- The walk over the nodes of a folder is the walk that completing leaves.
+-- The walk over the nodes of a folder is the walk that the redo leaves.
 use Rattle.std.proofs.Common.{◌≡◌, ℕ, zero, suc, Bool, true, false, ◌&&◌, not, List, [], ◌∷◌, Option, None, Some, refl, sym, ap, ◌∙◌, if◌then◌else◌}
 use Rattle.std.specs.Prelude.{◌==◌}
 use Rattle.std.specs.Option.{option_map_or}
@@ -51,7 +51,7 @@ same_after writes one other checks next prev head =
     (λ w. written.prev_after writes one w ∙ ap (prev_written writes w) (prev w) ∙ sym (written.prev_after writes other w))
     (written.head_after writes one ∙ ap (head_written writes) head ∙ sym (written.head_after writes other))
 
--- What completing writes leaves the completed walk.
+-- What the redo writes leaves the walk after the redo.
 
 idle_walk : (l : ListView) → counts l ≡ false → walk l ≡ walk (completed_list l)
 unfolding walk completed_list

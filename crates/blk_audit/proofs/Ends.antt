@@ -40,7 +40,7 @@ below_next P b n lt before here = by (b == n) refl
 pub all_of : (P : ℕ → Type 0) (xs : List ℕ) → ((w : ℕ) → is_among xs w ≡ true → P w) → (i d : ℕ) → i < length xs → P (get_or xs i d)
 all_of P xs each i d lt = each (get_or xs i d) (list_any_at (λ m. m == get_or xs i d) xs i d lt (eq-eqb (get_or xs i d) (get_or xs i d) refl))
 
--- The ends of the chains of a store.
+-- The ends of the chains of a store view.
 
 module _ (store : StoreView) where
   many_ends : (n : ℕ) → length (ends_by store n) ≡ n

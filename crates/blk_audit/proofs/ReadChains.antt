@@ -47,7 +47,7 @@ module _ (files : BlockFiles) (image : Image) where
   pub none_named : (w : ℕ) → is_record_among files w ≡ false → HasEntry files image w
   none_named w none is = clash (sym none ∙ is)
 
-  -- a chain on its way: the reached records are there, and their next words were looked at, or are the word that comes
+  -- a chain under way: the reached records are there, and their next words were looked at, or are the word that comes
   pub record IsOnWay (before words : List ℕ) (start word i : ℕ) : Type 0 where
     pub each : AreReachedThere files image words
     pub next : (w : ℕ) → is_among words w ≡ true → length words < most_records → HasEntry files image (entry_at image w).next ⊎ ((entry_at image w).next ≡ word)

@@ -59,7 +59,7 @@ step_on list old new link on good is apart items = (
       ∙ ap (λ (t : List ℕ). link.word ∷ t) (walk_met list.checks list.next list.prev most (link.word ∷ old) new link.word on (λ v. among_last old link.word v ∙ ap (λ (t : List ℕ). is_among t v) (sym items))),
 )
 
--- a walk on its way: what was walked, and what is to come from a word on
+-- a walk under way: what was walked, and what is to come from a word on
 pub record IsOn (list : ListView) (walked : Walked) (left before word : ℕ) : Type 0 where
   pub met : AreMet walked
   pub whole : walk list ≡ walked.nodes.items ++ walk_from list.checks list.next list.prev left walked.nodes.items before word

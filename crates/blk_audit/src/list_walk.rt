@@ -48,7 +48,7 @@ pub(crate) fn walk_nodes(
     ensures walked { IfOk result (λ walk. walk.nodes.items ≡ walking.walk (after_writes (map meant writes.now) (list_in nodes.now head))) }
     ensures met { IfOk result AreMet }
 
-    // With the nodes of a folder, its head and what completing would write, it is the walk that completing leaves.
+    // With the nodes of a folder, its head and what the redo would write, it is the walk that the redo leaves.
     ensures completed { (image : Image) → AreNodesOf image nodes.now → head ≡ (list_of image).head → map meant writes.now ≡ completion_writes (list_of image) → IfOk result (λ walk. walk.nodes.items ≡ completed_walk image) }
 {
     let mut walk = Walked {

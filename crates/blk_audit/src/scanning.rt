@@ -38,7 +38,7 @@ pub struct Lists {
     pub(crate) named: Claims,
 }
 
-/// Walks the LRU list of a folder, as it is once its operation in flight is completed, and follows its chains. Nothing
+/// Walks the LRU list of a folder, as it is once its operation in flight is redone, and follows its chains. Nothing
 /// is written.
 ///
 /// On a folder where each reached record is that of a walked node, no call is made for a node or a record alone, but

@@ -21,7 +21,7 @@ use blk_lru::pending;
 use blk_record::IndexHead;
 use std::alloc::Global;
 
-/// Walks the LRU list of a folder as it is once its operation in flight is completed. Nothing is written.
+/// Walks the LRU list of a folder as it is once its operation in flight is redone. Nothing is written.
 ///
 /// One call reads 1024 nodes of a file, of which each takes 20 bytes of memory, one the head, and at most seven the
 /// operation in flight and its nodes. A failed check is a read that gave too few bytes; a folder whose files are those

@@ -1,4 +1,4 @@
--- A Close of the last name of a doomed object, from the moments of the freeing; and of the last name of any object.
+-- A Close of the last name of a doomed object, by what holds at each word of the freeing; and of the last name of any object.
 use Rattle.std.proofs.Common.{◌≡◌, ⊎_elim, Result, ℕ, ◌-◌, ◌<◌, ◌^◌, Bool, true, false, List, [], ◌∷◌, ◌++◌, set, Some, None, refl, sym, ap, subst, ◌∙◌}
 use Rattle.std.specs.Prelude.{OnOk, if◌then◌else◌, not}
 use Rattle.std.specs.Option.{ForSome}

@@ -1,4 +1,4 @@
--- A Close, from the moments of the dirty flag.
+-- A Close, by what holds at each word of the dirty flag.
 use Rattle.blk_io.specs.declared.fault.Fault.{Fault}
 use Rattle.std.proofs.Common.{◌≡◌, ⊎_elim, Result, ℕ, zero, suc, ◌-◌, ◌<◌, ◌^◌, Bool, true, false, List, [], ◌∷◌, set, get_or, Option, Some, None, refl, sym, ap, subst, ◌∙◌, arith}
 use Rattle.std.specs.Prelude.{IfSome, OnOk, if◌then◌else◌, is_some, nat_le, not}

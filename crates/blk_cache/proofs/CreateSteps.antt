@@ -1,4 +1,4 @@
--- A new object of a cache, from the moments in which it is made.
+-- A new object of a cache, by what holds at each word while it is made.
 use Rattle.std.proofs.Common.{◌≡◌, ℕ, true, List, sym}
 use Rattle.std.specs.Prelude.{◌&&◌, ◌==◌}
 use Rattle.std.specs.Option.{ForSome}

@@ -1,4 +1,4 @@
--- An object of a handle becomes dirty, or clean, from the moments of its dirty flag.
+-- An object of a handle becomes dirty, or clean, by what holds at each word of its dirty flag.
 use Rattle.std.proofs.Common.{◌≡◌, ℕ, ◌<◌, ◌^◌, Bool, true, false, not, [], inl, Option, Some, None, Result, refl, sym, ap, subst, ◌∙◌, arith}
 use Rattle.std.specs.Prelude.{◌⊎◌, ◌==◌, IfSome, IsSome, OnOk, if◌then◌else◌}
 use Rattle.std.specs.Option.{ForSome, option_map}

@@ -1,4 +1,4 @@
--- A Read of a cache that keeps a state, from the moments of its access.
+-- A Read of a cache that keeps a state, by what holds at each word of its access.
 use Rattle.std.proofs.Common.{◌≡◌, ⊎_elim, ℕ, ◌-◌, Bool, true, false, List, [], length, drop, Option, Some, None, Result, refl, sym, ap, subst, ◌∙◌}
 use Rattle.std.specs.Prelude.{OnOk, if◌then◌else◌, min, not, sum_by}
 use Rattle.std.specs.Option.{ForSome}

@@ -37,7 +37,7 @@ use Rattle.blk_cache.specs.Replying.{ForBytes, ForReply, ForRows, IsStateAfter, 
 use Rattle.blk_evict.proofs.RoomTexts.{appends-longer, printed-on}
 use Rattle.blk_cache.proofs.Sizes.{named-object}
 
--- ---- the text is the map's
+-- ---- the text is the model's
 
 done-text : (moment : ℕ) (request : Request) (state : State) → text_of_reply request (answer_of (outcome moment request state None).reply) (outcome moment request state None).state ≡ reply_text (outcome moment request state None).reply
 unfolding outcome reply evicted effect without reply_text sparse_used
@@ -69,7 +69,7 @@ step-text : (moment : ℕ) (request : Request) (state : State) → text_of_reply
 unfolding step
 step-text moment request state = outcome-text moment request state (refused moment request state)
 
--- by the state after a command the text of its reply is that of the map's
+-- by the state after a command the text of its reply is that of the model's
 pub text-after : (moment : ℕ) (request : Request) (state : State) (given : Answer) → given ≡ answer_of (step state moment request).reply → text_of_reply request given (step state moment request).state ≡ reply_text (step state moment request).reply
 text-after moment request state given is = ap (λ (a : Answer). text_of_reply request a (step state moment request).state) is ∙ step-text moment request state
 

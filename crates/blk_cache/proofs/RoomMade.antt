@@ -31,7 +31,7 @@ limits-left (group ∷ groups) state = refl
 met-same : (bytes more : ℕ) (groups : List Group) (state : State) → is_met (goal.Room bytes more) (without groups state) ≡ fits (low state) bytes more (without groups state)
 met-same bytes more groups state = ap (λ (l : Bounds). nat_le (total (without groups state) + bytes) (l.max_bytes - l.max_bytes / free_share) && nat_le (items (without groups state) + more) (without groups state).limits.max_items) (limits-left groups state)
 
--- so what is evicted until the goal is met is what the map evicts
+-- so what is evicted until the goal is met is what the model evicts
 pub until-met : (bytes more : ℕ) (state : State) (covered : List Item) → evicted_until (is_met (goal.Room bytes more)) state covered ≡ evicted_until (fits (low state) bytes more) state covered
 unfolding evicted_until
 until-met bytes more state covered = ap (λ (enough : List Group → Bool). shortest enough [] (groups_from_back (is_pinned state covered) (reverse state.uses))) (λ i groups. met-same bytes more groups state i)

@@ -54,7 +54,7 @@ use Rattle.blk_cache.proofs.SparseRoom.{wants-room}
 use Rattle.blk_cache.proofs.Marks.{set-same}
 use Rattle.blk_cache.proofs.Sparing.{passed-spares}
 
--- ---- the map's
+-- ---- the model's
 
 module _ (state : State) (moment handle offset : ℕ) (layout : Layout) (found : Target) (t : IsTargetNamed state layout moment handle offset 0 found) where
   abbrev object : Object

@@ -137,7 +137,7 @@ module _ (state : State) (moment handle offset : ℕ) (bytes : List ℕ) (some :
           unsettling-stops state moment (to_sparse_write handle offset bytes) number object image valid
           (subst (λ (bs : List ℕ). IsNamedBy state moment (to_sparse_write handle offset bs) handle number object → Unsettles state moment (to_sparse_write handle offset bs) number object) (sym e) (sparse-writes-unsettle state moment handle offset byte more number object) named) finds
 
--- ---- the moments
+-- ---- at each word
 
 module _ (cache : Cache) (moment handle offset : ℕ) (bytes : List ℕ) (some : 1 ≤ length bytes) (target : Target) (more_bytes more_items : ℕ) (old mid : Told) where
   -- the durable contents once it is dirty, or before

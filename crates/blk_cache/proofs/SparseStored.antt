@@ -241,7 +241,7 @@ module _ (cache : Cache) (state : State) (from : Image) (k : HoldsState cache st
           mark = counts.mark ∙ k.mark ∙ sym w.session.id;
         }
 
--- ---- the moments
+-- ---- at each word
 
 module _ (cache : Cache) (handle offset : ℕ) (bytes : List ℕ) (some : 1 ≤ length bytes) (short : length bytes ≤ 1048576) (target : Target) (more_bytes more_items : ℕ) (b : Binding) (bound : binding_of cache.handles handle ≡ Some b) (its : Target) (is-own : its ≡ own_target b.node b.entry target) (old now : Told) where
   pub store-stops : ForSome old.files (λ from. ForEachToStore its offset bytes more_items more_bytes from (λ state layout number object. Passes old now (Finds (rest state))))

@@ -126,7 +126,7 @@ module _ (cache : Cache) (old mid : Told) (stays : mid ≡ old) (moment handle o
   pub found-named : ForSome old.files (λ image. (state : State) (k : HoldsState cache state image) → IsAskedTarget state k.layout moment handle offset bytes given) → (found : Target) → given ≡ target.Found found → NamesTarget cache mid moment handle offset (length bytes) found
   found-named asked found is image there state k = subst (IsAskedTarget state k.layout moment handle offset bytes) is (asked image (ap (λ (t : Told). t.files) (sym stays) ∙ there) state k)
 
-  -- and a refusal is the map's
+  -- and a refusal is the model's
   pub asked-refused : ForSome old.files (λ image. (state : State) (k : HoldsState cache state image) → IsAskedTarget state k.layout moment handle offset bytes given) → (why : Refusal) → given ≡ target.Refused why → ForKept (HoldsState cache) old (λ state. refused moment (to_sparse_write handle offset bytes) state ≡ Some why)
   asked-refused asked why is image there state k = subst (IsAskedTarget state k.layout moment handle offset bytes) is (asked image there state k)
 

@@ -132,7 +132,7 @@ module _ (state : State) (moment handle stream offset : ℕ) (cut : Bool) (bytes
           left-stops state moment (to_write handle stream offset cut bytes) (rest base) image (room-left state moment (to_write handle stream offset cut bytes) valid passes)
           (⊎_elim (λ (first : Finds (rest base) image). first) (λ (second : Finds (rest later) image). subst (λ (rows : List Row). Finds rows image) (doomed-rest base number object (Some loose) names.here dead dead) second) finds)
 
--- ---- the moments
+-- ---- at each word
 
 module _ (cache : Cache) (moment handle stream offset : ℕ) (cut : Bool) (bytes : List ℕ) (size : ℕ) (old mid : Told) where
   -- the durable contents once it is dirty, or before

@@ -1,4 +1,4 @@
--- A stream of a dirty object is written and accessed, from the moments of both.
+-- A stream of a dirty object is written and accessed, by what holds at each word of both.
 use Rattle.std.proofs.Common.{◌≡◌, ℕ, ◌-◌, ◌<◌, ◌^◌, Bool, true, false, not, List, [], Some, None, Result, refl, sym, ap, subst, ◌∙◌}
 use Rattle.std.specs.Prelude.{length}
 use Rattle.std.specs.Option.{ForSome}

@@ -52,7 +52,7 @@ can_be_read stream offset number = nat_lt stream stream_count && nat_lt (offset 
 
 -- Sparse data.
 
--- the handle names a live sparse object of which `number` bytes from the offset on are all valid
+-- the handle names a live sparse object of which `number` bytes from the offset on are all present
 pub record NamesPresent (state : State) (handle offset number : ℕ) : Type 0 where
   pub n : ℕ
   pub object : Object
@@ -63,11 +63,11 @@ pub record NamesPresent (state : State) (handle offset number : ℕ) : Type 0 wh
   pub few : number ≤ part_size
   pub inside : offset + number ≤ largest_offset
 
--- P holds of the printed reply of a SparseRead, for each state that the cache keeps in which these bytes are all valid
+-- P holds of the printed reply of a SparseRead, for each state that the cache keeps in which these bytes are all present
 abbrev pub ForPresent : Cache → Told → (handle offset number : ℕ) → (List ℕ → Type 0) → Type 0
 ForPresent cache told handle offset number P = ForKept (HoldsState cache) told (λ state. (p : NamesPresent state handle offset number) → P (reply_text (gave (sparse_bytes p.object offset number))))
 
--- the cache keeps some state in which the handle names a live sparse object and these bytes of it are all valid
+-- the cache keeps some state in which the handle names a live sparse object and these bytes of it are all present
 pub record KeepsPresent (cache : Cache) (handle offset number : ℕ) (image : Image) : Type 0 where
   pub state : State
   pub kept : HoldsState cache state image

@@ -48,7 +48,7 @@ impl Cache {
     ) -> Result<Room, Fault>
         requires is_open { ForSome (F.told folder.old).files (IsOpen self.old.files) }
 
-        // There is no space exactly where the map has none; then nothing is done.
+        // There is no space exactly where the model has none; then nothing is done.
         ensures full { IfOk result (λ answer. ForKept (HoldsState self.old) (F.told folder.old) (λ state. says_full answer ≡ is_full_room (room state [] bytes items))) }
         ensures stays { IfOk result (λ answer. says_full answer ≡ true → Stays (F.told folder.old) (F.told folder.new)) }
         ensures tried { OnErr result (ForKept (HoldsState self.old) (F.told folder.old) (λ state. is_full_room (room state [] bytes items) ≡ false)) }
@@ -98,7 +98,7 @@ impl Cache {
     ) -> Result<Room, Fault>
         requires is_open { ForSome (F.told folder.old).files (IsOpen self.old.files) }
 
-        // There is no space exactly where the map has none; then nothing is done.
+        // There is no space exactly where the model has none; then nothing is done.
         ensures full { IfOk result (λ answer. ForCovered self.old parts.now (F.told folder.old) (λ state covered. says_full answer ≡ is_full_room (room state covered bytes items))) }
         ensures stays { IfOk result (λ answer. says_full answer ≡ true → Stays (F.told folder.old) (F.told folder.new)) }
         ensures tried { OnErr result (ForCovered self.old parts.now (F.told folder.old) (λ state covered. is_full_room (room state covered bytes items) ≡ false)) }

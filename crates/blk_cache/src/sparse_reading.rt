@@ -83,7 +83,7 @@ impl Cache {
     }
 }
 
-// The answer from the first run of valid bytes: how many there are at the offset, or the run.
+// The answer from the first run of present bytes: how many there are at the offset, or the run.
 fn told_of_run(wanted: Wanted, offset: u64, run: (u64, u64)) -> Answer
     ensures { result ≡ told_of_run wanted offset (run.0, run.1) }
 {

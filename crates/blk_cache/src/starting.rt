@@ -27,7 +27,7 @@ impl Cache {
     /// Opens the folder for a session. An uninitialized one is made, and the moment, in microseconds since 1970 UTC, is kept
     /// in it; any other is checked and recovered, so that it keeps its recovered contents. No handle name is bound.
     ///
-    /// The last step makes the crash word 1, in a session with the next number; the first where the folder was made. An opening
+    /// The last step makes the crash word 1, in a session with the next number, which is 1 where the folder was made. An opening
     /// may crash anywhere and be begun again.
     ///
     /// # Errors
@@ -47,7 +47,7 @@ impl Cache {
         ensures checked { OnOk result (ForSome (F.told f.old).files IsUsable) }
         ensures session { OnOk result (ForSome (F.told f.old).files (λ from. ForSome (F.told f.new).files (λ image. this_id_of (byte image index) ≡ opened_id from))) }
 
-        // A folder that was uninitialized has the moment as the time of its making.
+        // A folder that was uninitialized has the moment as its creation time.
         ensures made { OnOk result (ForSome (F.told f.old).files (λ from. IsUnfinished from → ForSome (F.told f.new).files (WasMadeAt moment))) }
 
         // At each word recovery gives what it gave before, and the folder is uninitialized or well formed where it was. The step that

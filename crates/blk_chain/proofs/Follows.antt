@@ -1,4 +1,4 @@
--- Chains of two stocks with the same records, and the same links along a chain.
+-- Chains of two store views with the same records, and the same links along a chain.
 use Rattle.std.proofs.Common.{◌≡◌, ℕ, zero, suc, ◌^◌, Bool, true, false, List, [], ◌∷◌, Option, refl, ◌∙◌, ap}
 use Rattle.std.specs.Prelude.{not, ◌&&◌, ◌==◌, if◌then◌else◌}
 use Rattle.std.specs.Option.{option_map_or}

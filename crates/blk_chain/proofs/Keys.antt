@@ -102,7 +102,7 @@ first-record image w own_fields here =
     both : (b : Bool) (k : ℕ) → b ≡ true → k ≡ 2 → (b && (k == 2)) ≡ true
     both b k e f = rw (e, f) refl
 
--- a moment of the update of the record is one of that word's
+-- the midst of the update of the record is that of an update of that word
 pub first-moment : (from image : Image) (w x : ℕ) → kind_of w ≡ 2 → IsMidUpdate from w ((4, x) ∷ []) image → IsMidUpdate from (first_word w) ((4, x) ∷ []) image
 unfolding record_at size_by_kind seal_by_kind
 first-moment from image w x kind moment =

@@ -45,7 +45,7 @@ index_word from at x small inside = record {
 pub index_spares : (at : ℕ) → SparesHeaders (one_word Index at)
 index_spares at = record { bytes = λ n i small. refl }
 
--- a core of the bucket
+-- a record of the bucket, by its fields
 core-of-bucket : (store : StoreView) (b w : ℕ) (fields : RecordFields) → store.entry w ≡ Some fields → fields.checks ≡ true → bucket_of_hash fields.hash ≡ b → is_of_bucket store b w ≡ true
 core-of-bucket store b w fields here good is = rw (here, good) (eq-eqb (bucket_of_hash fields.hash) b is)
 

@@ -26,11 +26,12 @@ use Rattle.blk_chain.specs.declared.finding.Step.TheVariants.{Here, On}
 use Rattle.spec_folder.specs.Searches.{bucket_of_key, chained_for, HasKey, IsWholeChain, NoneHasKey}
 use Rattle.blk_chain.specs.Unlinking.{StandsBehind, next_record}
 
--- the most records of a chain that a search follows: as many as an LRU list has nodes
+-- the most records that a chain has in a folder that is consistent: as many as an LRU list has nodes; a search passes one more at most
 abbrev pub most_searched : ℕ
 most_searched = most_nodes
 
--- precondition of a search: the chain of the key's bucket ends at the word 0, has no more records than a search follows, and each of them has a readable key
+-- precondition of a search: the chain of the key's bucket ends at the word 0, has at most so many records (`most_searched`), and each of them has a readable
+-- key
 pub record CanBeSearched (key : List ℕ) (image : Image) : Type 0 where
   pub whole : IsWholeChain (store_of image) (bucket_of_key key)
   pub few : length (chained_for (store_of image) key) ≤ most_searched
@@ -120,7 +121,7 @@ pub record IsDanglingLink (files : BlockFiles) (bucket : ℕ) (damage : Damage) 
   pub some : damage.found ≢ 0
   pub dangling : is_record_among files damage.found ≡ false
 
--- a search has passed one record more than it follows, and the chain goes on; the error has the link after the last one
+-- a search has passed one record more than a chain may have, and the chain goes on; the error has the link after the last one
 pub record IsTooLong (files : BlockFiles) (told : Told) (key : List ℕ) (is_child : Bool) (damage : Damage) : Type 0 where
   pub last : ℕ
   pub stands : is_record_among files last ≡ true

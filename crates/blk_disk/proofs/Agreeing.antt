@@ -1,4 +1,4 @@
--- What is kept of the block files goes on agreeing with them, where no header and no length changes.
+-- The table of block files goes on agreeing with the folder, where no header and no length changes.
 use Rattle.std.proofs.Common.{◌≡◌, ℕ, ◌≤◌, true, false, List, refl, sym, ⊎_elim, ◌∙◌, ap, subst, arith}
 use Rattle.spec_image.specs.Image.{Block, Image, length_of}
 use Rattle.spec_image.specs.Footprint.{Footprint, SameOutside, size_of}

@@ -1,4 +1,4 @@
--- Each kept file is kept once, also when one more is loaded.
+-- Each file is in the table once, also when one more is loaded.
 use Rattle.std.proofs.Common.{◌≡◌, ℕ, zero, suc, ◌<◌, Bool, true, false, ◌||◌, List, [], ◌∷◌, ◌++◌, append_assoc, length, set, get_or, refl, sym, ◌∙◌, ap, subst, arith, ⊎_elim}
 use Rattle.std.specs.Prelude.{◌==◌}
 use Rattle.std.specs.List.{IsDistinct, AllByRecursion}
@@ -127,7 +127,7 @@ module _ (xs ys old new : List ℕ) (n : ℕ) (was : old ≡ xs ++ ys) (is : new
           ap is_block_count (elsewhere blocks at n count same m differs)
           ∙ each m (⊎_elim (λ old_one. old_one) (λ e. absurd (differs (grind (arith, nat_tests)))) (or_cases (is_among old m) (n == m) among_old))
 
--- each of these files is kept once, with a number of blocks that files may have
+-- each of these files is in the table once, with a number of blocks that files may have
 pub record AreOnce (files blocks : List ℕ) : Type 0 where
   pub once : IsDistinct (λ m n. m == n) files
   pub counts : (n : ℕ) → is_among files n ≡ true → is_block_count (get_or blocks n 0) ≡ true

@@ -81,11 +81,11 @@ module _ (files : BlockFiles) (w : ℕ) (changes : List (ℕ × ℕ)) (stands : 
   quiet seal = quiet-word_steps (Block (file_selector w)) (placed (place w) (update_words (seal_place w) changes seal)) tt
 
   module _ (a b : Told) (seal : ℕ) (agrees : ForSome a.files (Agrees files)) where
-    -- the moments from an image whose record gets this checksum
+    -- before and after each write, from an image whose record gets this checksum
     along : (from : Image) → a.files ≡ Some from → RecordChecks w from → seal ≡ new_seal from w changes → Along (IsMidUpdate from w changes) from (update_steps w changes seal)
     along from there good is = subst (λ (v : ℕ). Along (IsMidUpdate from w changes) from (update_steps w changes v)) (sym is) (moments w from changes (fits from (agrees from there)) good (changes_before w changes are))
 
-    -- each moment is one of the update
+    -- the update is under way before and after each write
     pub stops_from : AppliesPrefix a b (update_steps w changes seal) → (from : Image) → a.files ≡ Some from → RecordChecks w from → seal ≡ new_seal from w changes → Passes a b (IsMidUpdate from w changes)
     stops_from part from there good is =
         let moment = IsMidUpdate from w changes in
@@ -140,7 +140,7 @@ module _ (w : ℕ) (changes : List (ℕ × ℕ)) (bytes : List ℕ) (a m b : Tol
   pub updated_read : ForSome m.files (λ from. bytes ≡ record_at from w → ForSome b.files (IsUpdated from w changes)) → ForSome a.files (λ from. ForSome b.files (IsUpdated from w changes))
   updated_read updated from there = updated from (still from there) (read from there)
 
--- where a record's checksum matches or is absent at each moment, it is so in the end
+-- where a record's checksum matches or is absent after each write, it is so in the end
 pub checks_after : (w : ℕ) (changes : List (ℕ × ℕ)) (a b : Told) → (a.files ≡ None → b.files ≡ None) → ForSome a.files (λ from. RecordChecks w from → Passes a b (IsMidUpdate from w changes)) → ForSome a.files (RecordChecks w) → ForSome b.files (RecordChecks w)
 checks_after w changes a b silent stops good =
     told_at_end a.files b.files (RecordChecks w) silent (λ from there image here. (passes_end (stops from there (good from there)) image here).checks)

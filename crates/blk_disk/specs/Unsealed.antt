@@ -26,7 +26,7 @@ pub record IsUnsealed (told : Told) (w : ℕ) (damage : Damage) : Type 0 where
 abbrev pub missing_seal : ℕ → List ℕ → Option ℕ
 missing_seal seal bytes = if is_sealed seal bytes then None else Some (seal_of seal bytes)
 
--- the step that writes this checksum into the record at address w, or none where there is nothing to mend
+-- the step that writes this checksum into the record at address w, or none where the record has it already
 abbrev pub missing_steps : ℕ → Option ℕ → List TrailStep
 missing_steps w None = []
 missing_steps w (Some seal) = word_step (Block (file_selector w)) (place w + seal_place w) seal

@@ -26,7 +26,7 @@ impl BlockFiles {
     ///
     /// The number is the least from 4 that no linked file has. The file gets the length 0, then 8192 and its header,
     /// and then the `next_file` of the last file of the kind names it. `Failed` comes only where the folder failed in
-    /// this call; a prefix of the steps has then lasted.
+    /// this call; a prefix of the steps was then made.
     pub fn add_file<F: Folder>(&mut self, f: &mut F, kind: Kind) -> Result<u8, Failed>
         requires block_kind { kind_number kind ≢ external }
         requires room { length (files_of self.old (kind_number kind)) < most_files }
@@ -79,7 +79,7 @@ impl BlockFiles {
         (nodes_and_small + large) as u8
     }
 
-    // The last file of a kind, or its first where none is kept.
+    // The last file of a kind, or the number of its first where the table has none.
     #[tactic(auto, unfolding(crate::specs::Growth::last_file))]
     fn last_file(&self, kind: Kind) -> u8
         requires { kind_number kind ≢ external }

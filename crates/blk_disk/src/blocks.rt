@@ -43,7 +43,7 @@ impl BlockFiles {
 
     /// Writes bytes over the blocks of an address, from a place among them on, one word after another.
     ///
-    /// `Failed` comes only where the folder failed in this call; a prefix of the words has then lasted.
+    /// `Failed` comes only where the folder failed in this call; a prefix of the words was then written.
     pub fn write_block<F: Folder>(
         &self,
         f: &mut F,

@@ -1,4 +1,4 @@
-// The block files of a folder are loaded, one along the links after another.
+// The block files of a folder are loaded, one after another along the links.
 ghost use Rattle.std.specs.Prelude.{◌≡◌, ◌≢◌, ◌+◌, ◌-◌, ◌<◌, [], length, OnOk, IfOk, Some, None, false};
 ghost use Rattle.std.specs.Option.{ForSome};
 ghost use Rattle.spec_image.specs.Told.{ReadsOnly};
@@ -14,7 +14,7 @@ use blk_addr::Kind;
 use blk_io::{Fault, Folder};
 
 impl BlockFiles {
-    /// Checks the headers of the block files, and takes them up.
+    /// Checks the headers of the block files, and loads them into a table.
     ///
     /// They are `data_0` to `data_3`, and after each the files along its links. The error names the first check that
     /// fails. `Device` comes only where the folder failed in this call.

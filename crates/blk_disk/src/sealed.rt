@@ -32,7 +32,7 @@ impl BlockFiles {
     ///
     /// The record is read by one folder call. Then its checksum becomes 0, the words are written in the order given, and the checksum becomes the hash: words
     /// that lie side by side by one call. Too few bytes of a record or a wrong checksum are corruption, and nothing is written. `Device` comes only where the
-    /// folder failed in this call; a prefix of the words has then lasted.
+    /// folder failed in this call; a prefix of the words was then written.
     pub fn update_sealed<F: Folder>(
         &self,
         f: &mut F,
@@ -101,7 +101,7 @@ impl BlockFiles {
     /// Changes at most four words of a record that was read, as `update_sealed` does, but without a read: the caller has its bytes, and gets them as they are
     /// afterwards.
     ///
-    /// `Failed` comes only where the folder failed in this call; a prefix of the words has then lasted.
+    /// `Failed` comes only where the folder failed in this call; a prefix of the words was then written.
     pub fn update_record<F: Folder>(
         &self,
         folder: &mut F,

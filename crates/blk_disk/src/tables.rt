@@ -1,4 +1,4 @@
-// What is kept of the block files.
+// The table of block files in memory.
 ghost use Rattle.std.specs.Prelude.{ℕ, ◌≡◌, ◌≢◌, ◌<◌, ◌≤◌, ◌+◌, [], ◌++◌, ◌==◌, length, IsTrue, false, true, slice_index};
 ghost use Rattle.std.specs.List.{IsDistinct};
 ghost use Rattle.std.proofs.Props.{props};
@@ -97,14 +97,14 @@ impl BlockFiles {
         self.lengths[usize::from(file)]
     }
 
-    // Keeps that a file has so many bytes.
+    // Sets the length of a linked file in the table.
     pub(crate) fn set_length(&mut self, file: u8, size: u64)
         ensures { Resizes self.old self.new file size }
     {
         self.lengths[usize::from(file)] = size;
     }
 
-    // Keeps that a file has so many blocks and bytes.
+    // Sets the number of blocks and the length of a linked file in the table.
     pub(crate) fn enlarge(&mut self, file: u8, blocks: u32, size: u64)
         requires { IsTrue (is_block_count blocks) }
         ensures { Enlarges self.old self.new file blocks size }

@@ -225,7 +225,7 @@ unfolding block_size
 size_is k which =
     ⊎_elim (λ (e : k ≡ 2). inl (rw e refl)) (λ (more : (k ≡ 3) ⊎ (k ≡ 4)). ⊎_elim (λ (e : k ≡ 3). inr (inl (rw e refl))) (λ (e : k ≡ 4). inr (inr (rw e refl))) more) which
 
--- one of the four types of data by three tests
+-- one of the four kinds of data by three tests
 abbrev chosen : Bool → Bool → Bool → ℕ
 chosen a b c = if a then 2 else if b then 3 else if c then 4 else 0
 

@@ -1,4 +1,4 @@
--- The dirty flag of a node at each moment of its change, and after it.
+-- The dirty flag of a node before and after each write of its change, and in the end.
 use Rattle.std.proofs.Common.{◌≡◌, ◌≢◌, inl, inr, ⊎_elim, ℕ, ◌+◌, ◌*◌, ◌%◌, ◌^◌, ◌<◌, ◌≤◌, [], take, refl, sym, ◌∙◌, ap, ap₂, subst, true, arith}
 use Rattle.std.proofs.lemmas.List.Elements.{All-nil, All-cons}
 use Rattle.spec_image.specs.Bytes.{content, word_at, long_at, range_at}
@@ -112,7 +112,7 @@ module _ (from image : Image) (w mark : ℕ) (kind : kind_of w ≡ rankings) (sm
   here : (i : Image) (q : ℕ) → q + 4 ≤ 36 → word_at (content (record_at i w)) q ≡ word i (Block (file_selector w)) (place w + q)
   here i q inside = let size : record_size w ≡ 36 = node_bytes w kind in record_word i w q (omega (arith, size, inside))
 
-  -- a moment of an update of the dirty flag of a node that is there, under a checksum 0
+  -- the midst of an update of the dirty flag of a node that is there, under a checksum 0
   pub marking_at : (files : BlockFiles) → Agrees files from → stands_among files w ≡ true → is_address w ≡ true → AreBytes from → RecordChecks w from → IsMidUpdate from w (dirty_change mark) image → SetsDirtyInProgress from w mark image
   unfolding node_in
   marking_at files agrees st address below good moment = record {

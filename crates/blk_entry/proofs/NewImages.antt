@@ -80,7 +80,7 @@ apart_place f g p n k out = by_test (same_file f g)
     by_test true = grind (arith, nat_tests)
     by_test false = refl
 
--- Files of two types are two.
+-- Files of two kinds are two.
 
 linked_kind : (files : BlockFiles) (w : ℕ) → stands_among files w ≡ true → kind_among (files_of files) (file_selector w) ≡ Some (kind_of w)
 unfolding stands_as_blocks
@@ -99,7 +99,7 @@ same_kind files u w su sw e = some_inj (sym (linked_kind files u su) ∙ ap (kin
 two_files : (files : BlockFiles) (u w : ℕ) → stands_among files u ≡ true → stands_among files w ≡ true → kind_of u ≢ kind_of w → same_file (Block (file_selector u)) (Block (file_selector w)) ≡ false
 two_files files u w su sw differ = other_file (file_selector u) (file_selector w) (λ e. differ (same_kind files u w su sw (sym e)))
 
--- two addresses of two types share no block
+-- two addresses of two kinds share no block
 pub apart_by_kind : (files : BlockFiles) (u w : ℕ) → stands_among files u ≡ true → stands_among files w ≡ true → kind_of u ≢ kind_of w → ShareNoBlock u w
 apart_by_kind files u w su sw differ e = absurd (differ (same_kind files u w su sw e))
 

@@ -1,4 +1,4 @@
--- The three places of a new entry, and what holds at each moment of its writes.
+-- The three places of a new entry, and what holds before and after each of its writes.
 use Rattle.std.proofs.Common.{◌≡◌, ◌≢◌, ⊎_elim, ℕ, ◌+◌, ◌<◌, ◌≤◌, Bool, true, false, ◌&&◌, List, [], ◌∷◌, ◌++◌, length, length-append, add-zero, Option, None, Some, refl, sym, ◌∙◌, subst, arith}
 use Rattle.std.specs.Prelude.{◌==◌, nat_le, nat_lt}
 use Rattle.std.proofs.lemmas.Bool.{and_parts, cases_Bool}

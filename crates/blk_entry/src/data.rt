@@ -66,8 +66,8 @@ pub(crate) fn write_ended<F: Folder>(
 /// Writes bytes of the data of an address, from a place in it on, one word after another: over its blocks,
 /// or over bytes of its external file.
 ///
-/// One folder call writes them. `Failed` comes only where the folder failed in this call; a prefix of the words has
-/// then lasted.
+/// One folder call writes them. `Failed` comes only where the folder failed in this call; a prefix of the words was
+/// then written.
 pub fn write_data<F: Folder>(
     folder: &mut F,
     files: &BlockFiles,

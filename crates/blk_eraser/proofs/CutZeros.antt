@@ -73,7 +73,7 @@ stored_alike from image w n block_kind stands bytes =
     let kind : (kind_of w == external) ≡ false = ne_eqb (kind_of w) external block_kind in
     rw (stands, kind, bytes) refl
 
--- what a store shows of data
+-- what a store view shows of data
 shown_alike : (from image : Image) (w n : ℕ) → stored_at image n w ≡ stored_at from n w → (store_of image).stored n w ≡ (store_of from).stored n w
 unfolding store_of
 shown_alike from image w n e = e

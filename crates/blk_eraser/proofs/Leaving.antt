@@ -224,7 +224,7 @@ blocks_blank test n size long (suc c) image known b below passes = λ i within.
         reach : (8192 + b * size + i < 8192 + c * size + min size (long - (8192 + c * size))) ⊎ (length_of mid (Block n) ≤ 8192 + b * size + i)
         reach = ⊎_elim (λ (inside : 8192 + b * size + i < long). inl (omega (arith, at, within, inside))) (λ (past : long ≤ 8192 + b * size + i). inr (omega (arith, mid_long, past))) (cases_lt (8192 + b * size + i) long)
 
--- A write that is on its way.
+-- A write that is under way.
 
 -- these steps write bytes of a target alone
 abbrev AllTarget : File → (ℕ → ℕ) → List TrailStep → Type 0

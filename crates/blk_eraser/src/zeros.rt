@@ -10,7 +10,7 @@ ghost use Rattle.blk_eraser.specs.Erasing.{MakesSteps, delete_steps, length_step
 
 use blk_io::{Failed, FileId, Folder};
 
-// The most bytes that go by one call.
+// The most bytes that one call writes.
 const PIECE: usize = 4096;
 
 // The length of a file, 0 where there is none.

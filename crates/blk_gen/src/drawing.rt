@@ -4,7 +4,7 @@ ghost use Rattle.blk_gen.specs.Draws.{next_value, draw_at, turn_behind, value_be
 
 use itoa::Buffer;
 
-// A value of the sequence is that before it by this factor, and this more.
+// A value of the sequence is the one before it times this factor, plus this summand, modulo 2^64.
 const FACTOR: u64 = 6_364_136_223_846_793_005;
 
 const MORE: u64 = 1_442_695_040_888_963_407;

@@ -1,4 +1,4 @@
-//! The generator: commands that are drawn from a number, and what is counted of them.
+//! The generator: a pseudo-random workload from a seed, and the counters of its commands.
 //!
 //! An iteration draws a key, a stream and how many bytes are written; what it asks of a cache then is the script
 //! `gen_script` of `specs/Generator`. What is drawn is specified in `specs/Draws`. No call takes memory.

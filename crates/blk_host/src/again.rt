@@ -1,4 +1,4 @@
-// Calls of the machine that a signal interrupted.
+// System calls that a signal interrupted.
 ghost use Rattle.std.specs.Prelude.{◌≡◌, ◌≢◌, ◌≤◌, IfOk, IfErr, IfSome, IfNone, IsErrAnd, OnOk, length};
 ghost use Rattle.std.specs.IoError.{error_kind};
 ghost use Rattle.std.specs.Io.KnownBytes.{ReadConsumes, WriteAppends};
@@ -6,7 +6,7 @@ ghost use Rattle.std.specs.Io.KnownBytes.{ReadConsumes, WriteAppends};
 use std::io;
 use std::io::{ErrorKind, Read, Write};
 
-/// Makes a call of the machine, and makes it again as long as a signal interrupts it.
+/// Makes a system call, and makes it again as long as a signal interrupts it.
 pub fn again<T, F: Fn() -> io::Result<T>>(call: F) -> io::Result<T>
     requires { F.IsAlwaysCallable call }
     ensures made { OnOk result (F.post call result) }

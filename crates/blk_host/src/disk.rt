@@ -27,7 +27,7 @@ const MODE_BITS: u32 = 0o7777;
 
 /// An open file of the folder. Its descriptor is none of the standard streams', so nothing that is printed gets into it.
 ///
-/// The folder is locked, so the machine is asked for the file's length as it is opened, and again where a change of it failed.
+/// The folder is locked, so the operating system is asked for the file's length as it is opened, and again where a change of it failed.
 #[derive(Drop)]
 pub struct OpenFile {
     file: File,
@@ -48,7 +48,7 @@ impl OpenFile {
         })
     }
 
-    /// The file of the machine. It has the descriptor of no standard stream.
+    /// The file of the operating system. It has the descriptor of no standard stream.
     pub fn file(&self) -> &File
         ensures above { pos 2 <ℤ file_raw_fd result.now }
     {
@@ -65,7 +65,7 @@ impl OpenFile {
         Ok(length)
     }
 
-    /// Gives it this length in bytes, by a call of the machine unless it is known to have it.
+    /// Gives it this length in bytes, by a system call unless it is known to have it.
     pub fn set_len(&mut self, length: u64) -> io::Result<()> {
         if self.length == Some(length) {
             return Ok(());
@@ -86,7 +86,7 @@ impl OpenFile {
     }
 }
 
-// What the machine says of a file.
+// What the operating system says of a file.
 fn metadata_of(file: &File) -> io::Result<Metadata> {
     again(|| file.metadata())
 }
@@ -242,7 +242,7 @@ impl<R: Files<File = File> + Drop> Disk<R> {
     }
 }
 
-// What the machine says of a file that was opened under a name. It fails unless it is a regular file with one name, on the
+// What the operating system says of a file that was opened under a name. It fails unless it is a regular file with one name, on the
 // folder's device, and the name still has it.
 fn own_metadata<R: Files>(rt: &R, held: &Held, name: &str, file: &File) -> io::Result<Metadata> {
     let metadata = metadata_of(file)?;
@@ -255,7 +255,7 @@ fn own_metadata<R: Files>(rt: &R, held: &Held, name: &str, file: &File) -> io::R
     }
 }
 
-// What the machine says of the file that a name has. It fails unless it is a regular file with one name, on the folder's device.
+// What the operating system says of the file that a name has. It fails unless it is a regular file with one name, on the folder's device.
 fn own_identity<R: Files>(rt: &R, held: &Held, name: &str) -> io::Result<Identity> {
     // A link is not followed here.
     let named = Identity::of(&again(|| fs::symlink_metadata(rt, name))?);

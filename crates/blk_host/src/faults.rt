@@ -1,11 +1,11 @@
-// The count of the machine's failures.
+// The count of failed system calls.
 ghost use Rattle.std.specs.Prelude.{◌≡◌, ◌≤◌, Ok, OnErr, IfOk};
 ghost use Rattle.spec_image.specs.Told.{Rises};
 
 use blk_io::Failed;
 use std::io;
 
-/// What the machine answered, with its failure counted.
+/// What a system call answered, with its failure counted.
 pub fn counted<T>(answer: io::Result<T>, faults: &mut u64) -> Result<T, Failed>
     ensures answer { IfOk result (λ value. answer ≡ Ok value) }
     ensures later { faults.old ≤ faults.new }

@@ -1,4 +1,4 @@
-// The cache files of a folder of the machine.
+// The cache files of a folder of the file system.
 ghost use Rattle.std.specs.Prelude.{◌≡◌, ◌≤◌, false, IsTrue, Ok, IfOk, OnOk, OnErr, length};
 ghost use Rattle.blk_io.specs.declared.folder.FileId.{FileId};
 ghost use Rattle.blk_host.specs.FileIds.{is_file};

@@ -1,4 +1,4 @@
-// A folder of the machine, which is opaque.
+// A folder of the file system, which is opaque.
 ghost use Rattle.std.specs.Prelude.{◌<◌, Ok, length};
 
 use crate::faults::counted;
@@ -10,7 +10,7 @@ use std::fs::File;
 use std::io;
 use std::rt::Files;
 
-/// A folder of the machine, which counts the failures of the machine.
+/// A folder of the file system, which counts the failed system calls.
 ///
 /// It is made of a `Held` alone and keeps it to its end. So no name is read and no file is opened before the lock was asked for, and none
 /// after it is gone.
@@ -25,8 +25,8 @@ impl<R: Files<File = File> + AllocGlobal + Clone + Drop> RealFolder<R> {
     /// shared.
     ///
     /// # Errors
-    /// The machine's, and `InvalidData` where a cache file's name belongs to something else than a regular file of the folder's device that
-    /// has one name. No file has been opened then.
+    /// The operating system's, and `InvalidData` where a cache file's name belongs to something else than a regular file of the folder's
+    /// device that has one name. No file has been opened then.
     pub fn new(rt: R, alloc: Global, held: Held) -> io::Result<Self> {
         Ok(RealFolder {
             files: DiskFiles::new(rt, alloc, held)?,
@@ -34,13 +34,13 @@ impl<R: Files<File = File> + AllocGlobal + Clone + Drop> RealFolder<R> {
         })
     }
 
-    /// Closes the files and lets the folder go.
+    /// Closes the files and releases the folder's lock.
     ///
     /// The names of the files that are open are asked once more: that of an external file was asked when another took its place.
     ///
     /// # Errors
-    /// The machine's, and `InvalidData` where a file that is open is no longer the folder's own under its name: it was removed, moved,
-    /// replaced or given a second name meanwhile, so what was written may not be in the folder.
+    /// The operating system's, and `InvalidData` where a file that is open is no longer the folder's own under its name: it was removed,
+    /// moved, replaced or given a second name meanwhile, so what was written may not be in the folder.
     pub fn close(self) -> io::Result<()> {
         self.files.check()
     }

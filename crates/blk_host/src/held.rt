@@ -33,7 +33,7 @@ pub enum Access {
 pub enum NotHeld {
     /// Another program has it.
     Elsewhere,
-    /// The machine failed.
+    /// A system call failed.
     Machine(io::Error),
 }
 
@@ -74,7 +74,7 @@ impl Held {
     /// system without locks is acquired without one.
     ///
     /// # Errors
-    /// `Elsewhere` where another program has the folder to the end of that time; `Machine` where the machine fails.
+    /// `Elsewhere` where another program has the folder to the end of that time; `Machine` where a system call fails.
     pub fn take<R: Files<File = File> + Env + Clock>(
         rt: &R,
         path: &str,

@@ -1,10 +1,10 @@
-// Which file the machine says that a name or a descriptor has.
+// Which file the operating system says that a name or a descriptor has.
 ghost use Rattle.std.specs.Prelude.{◌≡◌, ◌↔◌, IsTrue};
 
 use std::fs::Metadata;
 use std::os::unix::fs::MetadataExt;
 
-/// Which file the machine says that a name or a descriptor has.
+/// Which file the operating system says that a name or a descriptor has.
 #[derive(Clone, Copy)]
 pub struct Identity {
     is_regular: bool,

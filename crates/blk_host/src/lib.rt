@@ -1,4 +1,4 @@
-//! The machine, as the cache meets it: a folder of files, the standard streams and the clock.
+//! The operating system, as the cache meets it: a folder of files, the standard streams and the clock.
 #![tactic(auto)]
 
 mod again;

@@ -1,4 +1,4 @@
-// Streams of the machine that are asked not to block.
+// Streams of the operating system that are asked not to block.
 ghost use Rattle.std.specs.Prelude.{◌≡◌, ◌≢◌, ◌≤◌, IfOk, IfErr, IfSome, IfNone, IsErrAnd, length};
 ghost use Rattle.std.specs.IoError.{error_kind};
 ghost use Rattle.std.specs.Io.KnownBytes.{ReadConsumes, WriteAppends};
@@ -12,7 +12,7 @@ use std::{io, thread};
 // The longest sleep between two tries, in milliseconds.
 const LONGEST: u64 = 20;
 
-/// A reader or a writer of the machine that waits as a blocking one does, also where it was made not to block.
+/// A reader or a writer of the operating system that waits as a blocking one does, also where it was made not to block.
 ///
 /// A call that would have to block is made again, after a sleep of 1 ms that doubles up to 20 ms; one that a signal
 /// interrupts is made again at once.

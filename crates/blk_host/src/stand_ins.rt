@@ -48,7 +48,7 @@ fn stand_in<S: AsFd + AsRawFd>(
     if is_open(stream) {
         return Ok(None);
     }
-    // The machine gives the least descriptor that is free.
+    // The operating system gives the least descriptor that is free.
     let file = how.open(&rt, "/dev/null")?;
     if file.as_raw_fd() == stream.as_raw_fd() {
         Ok(Some(file))

@@ -31,8 +31,8 @@ pub enum Part {
 
 /// Prints a part of a folder. Nothing is written to the folder.
 ///
-/// The headers are checked first. Of an uninitialized folder `unfinished` is printed, alone. The LRU list is that which completing the
-/// operation in flight would leave. Everything is read before anything is printed.
+/// The headers are checked first. Of an uninitialized folder `unfinished` is printed, alone. The LRU list is the one that the redo of
+/// its operation in flight would leave. Everything is read before anything is printed.
 ///
 /// # Errors
 ///
@@ -70,8 +70,8 @@ pub fn inspect<F: Folder, K: Sink>(
 /// that no walked node names, bucket after bucket and each chain in its order, with the first reason that holds; and at last the items
 /// and bytes of what is kept. Nothing is written to the folder.
 ///
-/// The headers are checked first. Of an uninitialized folder `unfinished` is printed, alone. The LRU list is that which completing the
-/// operation in flight would leave. Everything is read before anything is printed.
+/// The headers are checked first. Of an uninitialized folder `unfinished` is printed, alone. The LRU list is the one that the redo of
+/// its operation in flight would leave. Everything is read before anything is printed.
 ///
 /// # Errors
 ///

@@ -22,7 +22,7 @@ use blk_disk::BlockFiles;
 use blk_io::Folder;
 use std::alloc::Global;
 
-/// Reads the nodes of the LRU list, as it is once its operation in flight is completed.
+/// Reads the nodes of the LRU list, as it is once its operation in flight is redone.
 pub(crate) fn read_list<F: Folder>(
     alloc: Global,
     folder: &mut F,

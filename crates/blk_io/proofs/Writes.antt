@@ -22,7 +22,7 @@ none_cut b m n same = ap (λ (t : Bool). b || t) enough ∙ or_false b
     or_false true = refl
     or_false false = refl
 
--- where a call is listed to fail, as many of its steps last as are listed
+-- where a call is listed to fail, as many of its steps are made as are listed
 pub listed_last : {a b : Told} (s : List TrailStep) (listed : Option ℕ) (left : ℕ) → left ≡ length s → Applies a b (take (lasting listed left) s) → ForSome listed (λ count. Applies a b (take count s))
 listed_last {a} {b} s listed left same grows = λ count there.
     subst (Applies a b) (ap (λ (o : Option ℕ). take (lasting o left) s) there ∙ ap (λ (n : ℕ). take (min count n) s) same ∙ take_min count s) grows

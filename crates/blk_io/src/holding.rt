@@ -75,7 +75,7 @@ impl Sink for HoldingSink {
 
     ghost faults = { λ sink. (held_counts sink).faults };
 
-    // It fails only for want of memory.
+    // It fails only where memory runs out.
     fn put(&mut self, bytes: &[u8]) -> Result<(), Failed>
         ensures steps { OnOk result (Some (held_written self.new) ≡ option_map (λ w. w ++ bytes.now) (Some (held_written self.old))) }
         ensures prefix { Appends (Some (held_written self.old)) (Some (held_written self.new)) bytes.now }

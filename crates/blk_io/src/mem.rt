@@ -277,7 +277,7 @@ impl Folder for MemFolder {
         ensures failed { OnErr result (Rises (mem_counts self.old).faults (mem_counts self.new).faults) }
         ensures counted { CountsCall (mem_counts self.old) (mem_counts self.new) (is_err result) (fails_next (mem_counts self.old)) }
 
-        // Where it is listed to fail, the listed number of its words has lasted.
+        // Where it is listed to fail, the listed number of its words was written.
         ensures lasted { FindsMemory (mem_counts self.old) (mem_counts self.new) → ForSome (next_failure (mem_counts self.old)) (λ count. Applies (mem_told self.old) (mem_told self.new) (take count (words (file_of file) at bytes.now))) }
         ensures lacking { (mem_counts self.old).lacks < (mem_counts self.new).lacks → Stays (mem_told self.old) (mem_told self.new) }
     {

@@ -12,7 +12,7 @@ use crate::{Failed, FileId, Folder};
 
 /// A folder that passes each call on to another, and is opaque, as a folder of real files is.
 ///
-/// No condition on its files is owed. So a write asks the folder inside for the length of the file first,
+/// A caller has no condition on its files to meet. So a write asks the folder inside for the length of the file first,
 /// which is a call more there, and fails where the file hasn't the range.
 #[derive(Drop)]
 pub struct SilentFolder<F> {

@@ -28,10 +28,10 @@ pub fn write_word<F: Folder>(
     folder.write_at(file, at, &value.to_le_bytes())
 }
 
-// The most words that go by one call.
+// The most words that one call writes.
 const MOST_TOGETHER: usize = 8;
 
-/// Writes these words one after the other, each at its offset. Words that lie side by side, each after the one before, go by one call, eight of them at the
+/// Writes these words one after the other, each at its offset. Words that lie side by side, each after the one before, are written by one call, eight at the
 /// most. `Failed` comes where the folder failed; some of the words may then be written, from the first on.
 pub fn write_words<F: Folder>(
     folder: &mut F,

@@ -1,4 +1,4 @@
--- Whether the operation in flight counts, and what completing writes where it does.
+-- Whether the operation in flight counts, and what the redo writes where it does.
 use Rattle.blk_disk.specs.Tables.{is_node_among}
 use Rattle.std.proofs.Common.{⊎_elim, ◌≡◌, ◌≢◌, ℕ, Bool, true, false, ◌||◌, Option, None, Some, refl, sym, ap, ◌∙◌}
 use Rattle.std.specs.Prelude.{◌==◌}
@@ -103,7 +103,7 @@ module _ (files : BlockFiles) (list : ListView) (links : Links) (stands : is_nod
   pub move_found : list.operation ≡ 3 → (head : Option ℕ) (neighbours : Option Neighbours) → FindsHead list (Counts head) → FindsNeighbours list list.transaction (Counts neighbours) → FindsInFlight list (Some (record { node = links.node; operation = operations.Move neighbours head }))
   move_found three head neighbours first found = (move_counts list some_transaction are.good three first.0 found.0, record { node = are.node; operation = sym three; goes_by = (found.1, first.1) })
 
--- what completing writes, by the operation that was found
+-- what the redo writes, by the operation that was found
 pub found_writes : (list : ListView) (found : InFlight) → counts list ≡ true → IsInFlight list found → pending found.node found.operation ≡ completion_writes list
 found_writes list found e is =
     ap (λ (n : ℕ). pending n found.operation) is.node ∙ pending_is list found.operation is.operation is.goes_by ∙ sym (completion_true list e)

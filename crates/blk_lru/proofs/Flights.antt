@@ -74,7 +74,7 @@ module _ (files : BlockFiles) (image : Image) where
     prev = λ good. clash (sym good ∙ zero_unchecked ((list_among files image).next t) (sym are.next ∙ zero));
   }
 
-  -- what an operation goes by
+  -- what an operation uses
   pub insert_there : (list_among files image).operation ≡ 1 → HasHead files image → HasOperands files image
   insert_there is head = record {
     head = λ by. head;

@@ -38,7 +38,7 @@ module _ (a m b : Told) (stays : m ≡ a) (ws : List ListWrite) (plan : Image �
   pub part_as : ForSome m.files (λ from. AppliesPrefix m b (steps_of_writes ws from)) → ForSome a.files (λ from. AppliesPrefix a b (steps_of_writes (plan from) from))
   part_as part from there = subst (λ (w : List ListWrite). AppliesPrefix a b (steps_of_writes w from)) (is from there) (subst (λ (t : Told). ForSome t.files (λ from. AppliesPrefix t b (steps_of_writes ws from))) stays part from there)
 
-  -- what Ok says of the nodes of the writes, and that a failed check needs an opaque folder, hold from the start as well
+  -- what Ok says of the nodes of the writes, and that only an opaque folder gives a failed check, hold from the start as well
   pub checked_as : {T E : Type 0} (r : Result T E) → OnOk r (ForSome m.files (λ from. CanBeMade from ws)) → OnOk r (ForSome a.files (λ from. CanBeMade from (plan from)))
   checked_as r checked =
       on_ok_weaker r (λ can from there. subst (CanBeMade from) (is from there) (can from there)) (subst (λ (t : Told). OnOk r (ForSome t.files (λ from. CanBeMade from ws))) stays checked)

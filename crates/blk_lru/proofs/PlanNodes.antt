@@ -1,4 +1,4 @@
--- The nodes that an operation writes, by those that it goes by.
+-- The nodes that an operation writes, by those that it uses.
 use Rattle.std.proofs.Common.{◌≡◌, ◌≢◌, ℕ, ◌^◌, ◌<◌, Bool, true, false, [], ◌∷◌, Option, None, Some, if◌then◌else◌, refl, sym, ap, ◌∙◌, subst, arith}
 use Rattle.std.specs.Prelude.{◌==◌, ◌&&◌, ◌/◌, ◌||◌, IfSome}
 use Rattle.std.proofs.lemmas.Bool.{and_parts, eqb-true}

@@ -82,7 +82,7 @@ head_left node next prev (Some neighbours) head (some, (n, p)) =
     by_tests true false = refl
     by_tests false b = refl
 
--- what is pending of the operation in flight of a list, by the nodes that it goes by
+-- what is pending of the operation in flight of a list, by the nodes that it uses
 pub pending_is : (list : ListView) (operation : code.Operation) → operation_code operation ≡ list.operation → GoesBy list list.transaction operation → pending list.transaction operation ≡ pending_writes list
 pending_is list (operations.Insert head) is by =
     ap (λ (h : ℕ). putting_in_front list.transaction h ++ Transaction 0 ∷ []) by ∙ sym (pending_insert list (sym is))

@@ -42,7 +42,7 @@ pub fn insert_front<F: Folder>(f: &mut F, files: &BlockFiles, node: Addr) -> Res
     ensures steps { OnOk result (ForSome (F.told f.old).files (λ from. Applies (F.told f.old) (F.told f.new) (operation_steps insert node from))) }
     ensures prefix { MakesPartOf (F.told f.old) (F.told f.new) (λ from. operation_steps insert node from) }
 
-    // At each word completing gives the old list, or from the transaction word on the new one; nothing but the list changes.
+    // At each word the redo gives the old list, or from the transaction word on the new one; nothing but the list changes.
     ensures stops { ForSome (F.told f.old).files (λ from. CanBeInserted (list_of from) (walked from) node → Passes (F.told f.old) (F.told f.new) (IsMidOperation files.now (writes_of insert node (list_of from)) (walked from) (node ∷ walked from) from)) }
 
     ensures is_open { ForSome (F.told f.new).files (IsOpen files.now) }
@@ -75,7 +75,7 @@ pub fn remove<F: Folder>(f: &mut F, files: &BlockFiles, node: Addr) -> Result<()
     ensures steps { OnOk result (ForSome (F.told f.old).files (λ from. Applies (F.told f.old) (F.told f.new) (operation_steps removal node from))) }
     ensures prefix { MakesPartOf (F.told f.old) (F.told f.new) (λ from. operation_steps removal node from) }
 
-    // At each word completing gives the old list, or from the transaction word on the new one; nothing but the list changes.
+    // At each word the redo gives the old list, or from the transaction word on the new one; nothing but the list changes.
     ensures stops { ForSome (F.told f.old).files (λ from. (prefix suffix : List ℕ) → HasListAtRest (prefix ++ node ∷ suffix) from → Passes (F.told f.old) (F.told f.new) (IsMidOperation files.now (writes_of removal node (list_of from)) (prefix ++ node ∷ suffix) (prefix ++ suffix) from)) }
 
     ensures is_open { ForSome (F.told f.new).files (IsOpen files.now) }
@@ -110,7 +110,7 @@ pub fn touch<F: Folder>(f: &mut F, files: &BlockFiles, node: Addr, moment: u64) 
     ensures steps { OnOk result (ForSome (F.told f.old).files (λ from. Applies (F.told f.old) (F.told f.new) (steps_of_touch node moment from))) }
     ensures prefix { MakesPartOf (F.told f.old) (F.told f.new) (λ from. steps_of_touch node moment from) }
 
-    // At each word completing gives the old list, or from the transaction word on the new one; nothing but the list and the times changes.
+    // At each word the redo gives the old list, or from the transaction word on the new one; nothing but the list and the times changes.
     ensures stops { ForSome (F.told f.old).files (λ from. (prefix suffix : List ℕ) → HasListAtRest (prefix ++ node ∷ suffix) from → Passes (F.told f.old) (F.told f.new) (IsMidTouch files.now node (touch_writes node (list_of from)) (prefix ++ node ∷ suffix) (node ∷ prefix ++ suffix) from)) }
 
     ensures is_open { ForSome (F.told f.new).files (IsOpen files.now) }

@@ -40,9 +40,9 @@ pub(crate) enum Usable<T> {
     Fails,
 }
 
-/// Completes the operation in flight, if there is one, and ends its transaction.
+/// Redoes the operation in flight, if there is one, and ends its transaction.
 ///
-/// An operation counts where its code is that of an insert, a removal or a move, and its node and the nodes that it goes by are there with checksums that match
+/// An operation counts where its code is that of an insert, a removal or a move, and its node and the nodes that it uses are there with checksums that match
 /// or are absent: the first one for an insert and a move, and those beside the node for a removal and a move. One that doesn't count is given up: its
 /// transaction alone ends. Where there is none in flight nothing is written. The list need not be whole. This takes at most 34 folder calls.
 pub fn complete<F: Folder>(f: &mut F, files: &BlockFiles) -> Result<(), Fault>
@@ -52,7 +52,7 @@ pub fn complete<F: Folder>(f: &mut F, files: &BlockFiles) -> Result<(), Fault>
     ensures steps { OnOk result (ForSome (F.told f.old).files (λ from. Applies (F.told f.old) (F.told f.new) (completion_steps from))) }
     ensures prefix { MakesPartOf (F.told f.old) (F.told f.new) (λ from. completion_steps from) }
 
-    // At each word completing gives what it gave at the entry, so it may crash and be begun again; nothing but the list changes.
+    // At each word the redo gives what it gave at the entry, so it may crash and be begun again; nothing but the list changes.
     ensures stops { ForSome (F.told f.old).files (λ from. Passes (F.told f.old) (F.told f.new) (IsMidCompletion files.now from)) }
 
     ensures is_open { ForSome (F.told f.new).files (IsOpen files.now) }
@@ -68,7 +68,7 @@ pub fn complete<F: Folder>(f: &mut F, files: &BlockFiles) -> Result<(), Fault>
     perform(f, files, &plan)
 }
 
-/// What completing would write, in order: what is left of the operation in flight, or the end of its transaction where it doesn't count.
+/// What the redo would write, in order: what is left of the operation in flight, or the end of its transaction where it doesn't count.
 ///
 /// It is nothing where no operation is in flight. Nothing is written, and at most 6 folder calls are made.
 pub fn pending<F: Folder>(folder: &mut F, files: &BlockFiles) -> Result<Plan, Fault>

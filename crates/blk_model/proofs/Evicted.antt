@@ -1,4 +1,4 @@
--- States that stay valid while groups of items that are not pinned go.
+-- States that stay valid while eviction units of items that are not pinned go.
 use Rattle.std.proofs.Common.{◌≡◌, ℕ, zero, suc, ◌+◌, ◌<◌, ◌≤◌, Bool, true, false, not, ◌&&◌, ◌||◌, cond, List, [], ◌∷◌, ◌++◌, Some, None, Option, IfSome, IsSome, is_some, refl, ap, sym, ◌∙◌, subst, arith, get_or, map, reverse, ◌⊎◌, inl, inr}
 use Rattle.std.specs.List.{filter, AllByRecursion}
 use Rattle.std.specs.Option.{option_and_then, option_map_or}
@@ -21,7 +21,7 @@ use Rattle.blk_model.proofs.Each.{Each-map, Each-weaker, any_has}
 use Rattle.blk_model.proofs.States.{some_of, has_main, main_owner}
 use Rattle.blk_model.proofs.Doomed.{contrary}
 
--- a group is evicted for an item that need not stay
+-- an eviction unit is evicted for an item that need not stay
 abbrev pub IsLoose : (Item → Bool) → Group → Type 0
 IsLoose stays (whole key parts) = stays (main key) ≡ false
 IsLoose stays (single key n) = stays (part key n) ≡ false
@@ -55,7 +55,7 @@ T_true : (b : Bool) → T b → b ≡ true
 T_true true h = refl
 T_true false h = absurd h
 
--- the parts that a group leaves
+-- the parts that an eviction unit leaves
 abbrev pub kept_parts : List Group → Object → List (ℕ × PartValue)
 kept_parts groups object = filter (λ p. not (is_out groups (part object.key p.0))) object.parts
 
@@ -102,7 +102,7 @@ none_left gone true has g h = refl
 none_left gone false true g h = h refl
 none_left gone false false g h = refl
 
--- what the groups leave of an object has its items that are not out
+-- what the eviction units leave of an object has its items that are not out
 pub left_has : (groups : List Group) (item : Item) (object : Object) → slot_has_item item (left_of groups object) ≡ cond (is_out groups item) false (has_item object item)
 unfolding left_of
 left_has groups (main key) object =
@@ -150,7 +150,7 @@ named_stays state valid covered groups loose n object here held =
       | false ↦ λ left. refl
     ] refl
 
--- so what the groups leave of an object with a handle is the object without the parts that go
+-- so what the eviction units leave of an object with a handle is the object without the parts that go
 pub named_left : (state : State) (valid : IsValidState state) (covered : List Item) (groups : List Group) → AllByRecursion (IsLoose (is_pinned state covered)) groups → (n : ℕ) (object : Object) → object_at state n ≡ Some object → is_named state n ≡ true →
     left_of groups object ≡ Some (record object { parts = kept_parts groups object })
 unfolding left_of
@@ -181,13 +181,13 @@ state_without_some state valid covered groups loose =
     most true n le = le
     most false n le = omega arith
 
--- groups of items that are not pinned may be evicted
+-- eviction units of items that are not pinned may be evicted
 pub state_without : (state : State) (valid : IsValidState state) (covered : List Item) (groups : List Group) → AllByRecursion (IsLoose (is_pinned state covered)) groups → IsValidState (without groups state)
 unfolding without
 state_without state valid covered [] loose = valid
 state_without state valid covered (group ∷ groups) loose = state_without_some state valid covered (group ∷ groups) loose
 
--- the groups that could be evicted are of items that need not stay
+-- the eviction units that could be evicted are of items that need not stay
 pub groups_are_loose : (stays : Item → Bool) (items : List Item) → AllByRecursion (IsLoose stays) (groups_from_back stays items)
 unfolding groups_from_back
 groups_are_loose stays [] = tt

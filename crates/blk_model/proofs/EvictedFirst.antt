@@ -27,7 +27,7 @@ use Rattle.blk_model.proofs.StopRests.{picked_before, owner_key}
 use Rattle.blk_model.proofs.Leads.{may_settle, step_leads}
 use Rattle.blk_model.proofs.Chosen.{Owner, owner_of, picked_chooses, settled_chooses, stays_through}
 
--- Groups that go leave who has an item that isn't out.
+-- Eviction units that go leave who has an item that isn't out.
 
 left_first : (groups : List Group) (item : Item) (start : ℕ) (slots : List (Option Object)) → is_out groups item ≡ false → first_with item start (map (option_and_then (left_of groups)) slots) ≡ first_with item start slots
 left_first groups item start [] stays = refl
@@ -51,7 +51,7 @@ left_none groups item start (slot ∷ slots) none = go (slot_has_item item slot)
       let here : slot_has_item item (option_and_then (left_of groups) slot) ≡ false = left_slot_has groups item slot ∙ ap (λ b. cond (is_out groups item) false b) has ∙ either (is_out groups item) in
       ap (λ b. cond b (Some start) (first_with item (start + 1) (map (option_and_then (left_of groups)) slots))) here ∙ more e
 
--- what the groups leave of an object with an item that isn't out
+-- what the eviction units leave of an object with an item that isn't out
 left_is : (groups : List Group) (item : Item) (object : Object) → is_out groups item ≡ false → has_item object item ≡ true → left_of groups object ≡ Some (record object { parts = kept_parts groups object })
 unfolding left_of
 left_is groups item object stays has = go (object.live && is_out groups (main object.key)) refl (left_slot_has groups item (Some object) ∙ ap (λ b. cond b false (has_item object item)) stays ∙ has) where
@@ -66,7 +66,7 @@ left_row groups (part key n) object stays own =
     let out_not : is_out groups (part object.key n) ≡ false = subst (λ k. is_out groups (part k n) ≡ false) own stays in
     ap (option_map (λ (value : PartValue). part_row key n value)) (kept_part_at groups object n ∙ ap (λ b. cond (not b) (part_at object n) None) out_not)
 
--- Without the groups.
+-- Without the eviction units.
 
 module _ (state : State) (group : Group) (groups : List Group) where
   left_owner : (item : Item) → is_out (group ∷ groups) item ≡ false → owner (without (group ∷ groups) state) item ≡ owner state item

@@ -107,14 +107,14 @@ left_leads groups None = tt
 left_leads groups (Some object) =
     elim (object.live && is_out groups (main object.key)) as (λ b. Leads false Never (Some object) (cond b None (Some (record object { parts = kept_parts groups object })))) [ true ↦ tt | false ↦ left_to groups object ]
 
--- what groups leave
+-- what eviction units leave
 without_leads : (groups : List Group) (state : State) (n : ℕ) → Leads false Never (object_at state n) (object_at (without groups state) n)
 unfolding without
 without_leads [] state n = to_same false Never (object_at state n)
 without_leads (group ∷ groups) state n =
     subst (Leads false Never (object_at state n)) (sym (map_at (left_of (group ∷ groups)) state.objects n)) (left_leads (group ∷ groups) (object_at state n))
 
--- groups that go leave as many slots
+-- eviction units that go leave as many slots
 pub length-without : (groups : List Group) (state : State) → length (without groups state).objects ≡ length state.objects
 unfolding without
 length-without [] state = refl

@@ -34,7 +34,7 @@ not_or : (a b : Bool) → (not a && not b) ≡ not (a || b)
 not_or true b = refl
 not_or false b = refl
 
--- groups that are evicted one after another
+-- eviction units that are evicted one after another
 pub outs : (groups : List Group) (items : List Item) → after_steps (map out groups) items ≡ not_out groups items
 outs [] items = sym (filter_all items)
   where
@@ -56,7 +56,7 @@ fronts : (items list : List Item) → after_steps (map front items) list ≡ use
 fronts [] list = refl
 fronts (item ∷ items) list = fronts items (used item list)
 
--- groups that are evicted, and then items that are accessed
+-- eviction units that are evicted, and then items that are accessed
 gone_then_used : (groups : List Group) (items : List Item) (state : State) → after_steps (map out groups ++ [] ++ map front items) state.uses ≡ used_all items (without groups state).uses
 gone_then_used groups items state =
     after_steps-append (map out groups ++ []) (map front items) state.uses

@@ -19,7 +19,7 @@ pub length-with_blocks : (first last number : ℕ) (blocks : List Bool) → leng
 length-with_blocks first last number [] = refl
 length-with_blocks first last number (was ∷ blocks) = ap suc (length-with_blocks first last (number + 1) blocks)
 
--- a block that is present after was present or is one of those that the write covers
+-- a block that is present after was present or is one of those that the write makes present
 pub present_after : (first last number : ℕ) (blocks : List Bool) (block : ℕ) → get_or (with_blocks first last number blocks) block false ≡ true → (get_or blocks block false ≡ true) ⊎ (number + block < last)
 present_after first last number [] block is = inl is
 present_after first last number (was ∷ blocks) zero is =

@@ -13,7 +13,7 @@ use Rattle.blk_model.specs.Holding.{open_state}
 use Rattle.blk_model.specs.Step.{step, Outcome}
 use Rattle.blk_model.proofs.Computing.{computing}
 
--- what a command showed: its groups and its reply
+-- what a command showed: its eviction units and its reply
 abbrev pub shown : Outcome → List Group × Reply
 shown outcome = (outcome.groups, outcome.reply)
 

@@ -81,7 +81,7 @@ found_is n (p ∷ parts) all =
       | false ↦ found_is n parts (All-tail IsPart p parts all)
     ]
 
--- a number that a range from an offset may cover
+-- the number of a part that may be in range, of a range from an offset on
 abbrev IsCovered : ℕ → ℕ → Type 0
 IsCovered offset n = (n < part_count) × (offset < (n + 1) * part_size)
 

@@ -149,7 +149,7 @@ a_goes_first = record { passes = refl; groups = refl }
 b_alone_is_left : StopOutcome pair 100 (to_trim 0) (step pair 100 (to_trim 0)).state (rest (without (whole a [] ∷ []) pair))
 b_alone_is_left = evictions-stop pair 100 (to_trim 0) (whole a [] ∷ []) (whole b [] ∷ []) pair_is_valid a_goes_first
 
--- and so may what a crash before the second group leaves
+-- and so may what a crash before the second eviction unit leaves
 none_is_left : StopOutcome pair 100 (to_trim 0) (step pair 100 (to_trim 0)).state (pick (without (whole a [] ∷ []) pair) (step pair 100 (to_trim 0)).state true (after_steps (out (whole b []) ∷ []) (without (whole a [] ∷ []) pair).uses))
 unfolding dooms uses_of
 none_is_left = evictions-first pair 100 (to_trim 0) (whole a [] ∷ []) (whole b [] ∷ []) _ pair_is_valid a_goes_first (record { step_count = 1; within = omega arith; with_turned = true; picked_rows = refl })

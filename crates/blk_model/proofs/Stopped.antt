@@ -34,7 +34,7 @@ at_most_used : (b : Bool) (n : ℕ) → n ≤ 1 → cond b 1 n ≤ 1
 at_most_used true n le = omega arith
 at_most_used false n le = le
 
--- a group that does not take a part does not take its main item
+-- an eviction unit that does not take a part does not take its main item
 main_left : (key : List ℕ) (n : ℕ) (group : Group) → not (takes (part key n) group) ≡ true → not (takes (main key) group) ≡ true
 main_left key n (whole other parts) left = left
 main_left key n (single other m) left = refl

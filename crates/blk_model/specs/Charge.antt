@@ -4,7 +4,7 @@ use Rattle.std.specs.Fmt.{digits}
 use Rattle.blk_model.specs.Sizes.{parts_index_charge, blocks_index_charge}
 use Rattle.blk_model.specs.Items.{Shape, Streams, plain, sparse, PartValue}
 
--- the name of a part of a sparse object: its parent's key, and the signature and the number in lower-case hexadecimal
+-- the name of a part of a sparse object: its parent's key, and the generation and the number in lower-case hexadecimal
 unfoldable pub part_name : List ℕ → ℕ → ℕ → List ℕ
 part_name key signature n = codes "Range_" ++ key ++ codes ":" ++ digits 16 false signature ++ codes ":" ++ digits 16 false n
 

@@ -89,7 +89,7 @@ written handle stream offset cut bytes state =
     let written_to = with_stream object stream (stream_after cut (stream_of object stream) offset bytes) in
     used_main object (with_slot (number_of state handle) (Some (record written_to { settled = false })) state)
 
--- the shape of an object after a sparse write: a plain one becomes sparse, with the moment as its signature
+-- the shape of an object after a sparse write: a plain one becomes sparse, with the moment as its generation
 abbrev pub made_sparse : ℕ → Shape → Shape
 made_sparse moment plain = sparse (moment % signatures)
 made_sparse moment (sparse signature) = sparse signature

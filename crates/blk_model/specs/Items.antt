@@ -12,7 +12,7 @@ pub data Item : Type 0 where
 abbrev pub Streams : Type 0
 Streams = List ℕ × List ℕ × List ℕ
 
--- a plain object, or a sparse one with its signature
+-- a plain object, or a sparse one with its generation
 pub data Shape : Type 0 where
   plain : Shape
   sparse : ℕ → Shape
@@ -54,7 +54,7 @@ abbrev pub is_sparse : Shape → Bool
 is_sparse plain = false
 is_sparse (sparse signature) = true
 
--- the signature of a shape, and 0 of a plain one
+-- the generation of a shape, and 0 of a plain one
 abbrev pub signature_of : Shape → ℕ
 signature_of plain = 0
 signature_of (sparse signature) = signature

@@ -46,7 +46,7 @@ StopsMayLeaveWhatWas = (state : State) (moment : ℕ) (request : Request) → Is
 abbrev pub StopsMayLeaveWhatIs : Type 0
 StopsMayLeaveWhatIs = (state : State) (moment : ℕ) (request : Request) → IsValidState state → IsRequest request → StopOutcome state moment request (step state moment request).state (rest (step state moment request).state)
 
--- a command changes nothing: the state stays, no group is evicted and no step is made on the LRU list
+-- a command changes nothing: the state stays, no eviction unit is evicted and no step is made on the LRU list
 pub record ChangesNothing (state : State) (moment : ℕ) (request : Request) : Type 0 where
   pub state_stays : (step state moment request).state ≡ state
   pub none_evicted : (step state moment request).groups ≡ []

@@ -9,7 +9,7 @@ use Rattle.blk_model.specs.Sparse.{covered_parts}
 use Rattle.blk_model.specs.Effects.{object_of, number_of, existing_parts, used}
 use Rattle.blk_model.specs.Refusals.{refused, evicted}
 
--- a step on the LRU list: a group goes out, or an item comes to the front
+-- a step on the LRU list: an eviction unit goes out, or an item comes to the front
 pub data ListStep : Type 0 where
   out : Group → ListStep
   front : Item → ListStep

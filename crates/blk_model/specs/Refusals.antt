@@ -75,7 +75,7 @@ abbrev pub is_full : Room → Bool
 is_full full = true
 is_full (after groups) = false
 
--- the groups that are evicted for capacity, none where there is no capacity
+-- the eviction units that are evicted for capacity, none where there is no capacity
 abbrev pub evicted_for : Room → List Group
 evicted_for full = []
 evicted_for (after groups) = groups
@@ -84,7 +84,7 @@ evicted_for (after groups) = groups
 abbrev pub no_room : ℕ → Request → State → Bool
 no_room moment request state = is_full (room_for moment request state)
 
--- the groups that a command evicts
+-- the eviction units that a command evicts
 unfoldable pub evicted : ℕ → Request → State → List Group
 evicted moment (to_create handle key) state = evicted_for (room_for moment (to_create handle key) state)
 evicted moment (to_write handle stream offset cut bytes) state = evicted_for (room_for moment (to_write handle stream offset cut bytes) state)

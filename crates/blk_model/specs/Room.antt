@@ -13,17 +13,17 @@ pub data Group : Type 0 where
   whole : List ℕ → List ℕ → Group
   single : List ℕ → ℕ → Group
 
--- whether a group takes an item
+-- whether an eviction unit takes an item
 abbrev pub takes : Item → Group → Bool
 takes item (whole key parts) = bytes_eq key (key_of item)
 takes item (single key n) = same_item (part key n) item
 
--- the items of a group, as they are printed
+-- the items of an eviction unit, as they are printed
 abbrev pub items_of_group : Group → List Item
 items_of_group (whole key parts) = main key ∷ map (part key) parts
 items_of_group (single key n) = part key n ∷ []
 
--- whether an item is in one of the groups
+-- whether an item is in one of the eviction units
 abbrev pub is_out : List Group → Item → Bool
 is_out groups item = list_any (takes item) groups
 
@@ -94,8 +94,8 @@ part_number key (part other n) = if bytes_eq key other then Some n else None
 abbrev pub parts_among : List ℕ → List Item → List ℕ
 parts_among key items = filter_map (part_number key) items
 
--- the groups that could be evicted, the items given from the back of the LRU list: each that need not stay, a main item with its parts in front of it (those
--- after it went alone before)
+-- the eviction units that could be evicted, the items given from the back of the LRU list: each that need not stay, a main item with its parts in front of it
+-- (those after it went alone before)
 unfoldable pub groups_from_back : (Item → Bool) → List Item → List Group
 groups_from_back stays [] = []
 groups_from_back stays (main key ∷ before) =
@@ -105,27 +105,27 @@ groups_from_back stays (part key n ∷ before) =
     if stays (part key n) then groups_from_back stays before
     else single key n ∷ groups_from_back stays before
 
--- what is left of an object once some groups are evicted, None where its main item is
+-- what is left of an object once some eviction units are evicted, None where its main item is
 unfoldable pub left_of : List Group → Object → Option Object
 left_of groups object =
     if object.live && is_out groups (main object.key) then None
     else Some (record object { parts = filter (λ p. not (is_out groups (part object.key p.0))) object.parts })
 
--- the items of a list that are in none of the groups
+-- the items of a list that are in none of the eviction units
 abbrev pub not_out : List Group → List Item → List Item
 not_out groups items = filter (λ item. not (is_out groups item)) items
 
--- the state once some groups are evicted
+-- the state once some eviction units are evicted
 unfoldable pub without : List Group → State → State
 without [] state = state
 without (group ∷ groups) state = record state { objects = map (option_and_then (left_of (group ∷ groups))) state.objects; uses = not_out (group ∷ groups) state.uses }
 
--- those done and the shortest prefix of the groups after which there is enough, or all groups where there never is
+-- those done and the shortest prefix of the eviction units after which there is enough, or all eviction units where there never is
 abbrev pub shortest : (List Group → Bool) → List Group → List Group → List Group
 shortest enough done [] = done
 shortest enough done (group ∷ groups) = if enough done then done else shortest enough (done ++ group ∷ []) groups
 
--- the groups that are evicted from the back of the LRU list until there is enough
+-- the eviction units that are evicted from the back of the LRU list until there is enough
 unfoldable pub evicted_until : (State → Bool) → State → List Item → List Group
 evicted_until enough state covered = shortest (λ groups. enough (without groups state)) [] (groups_from_back (is_pinned state covered) (reverse state.uses))
 

@@ -33,7 +33,7 @@ longest_stream most = min (most / stream_share) most_stream
 abbrev pub free_share : ℕ
 free_share = 16
 
--- a part of a sparse object covers this many bytes
+-- a part of a sparse object has this many bytes
 abbrev pub part_size : ℕ
 part_size = 1048576
 
@@ -53,7 +53,7 @@ part_count = 65536
 abbrev pub largest_offset : ℕ
 largest_offset = 68719476736
 
--- signatures are below this
+-- generations are below this
 abbrev pub signatures : ℕ
 signatures = 2 ^ 63
 

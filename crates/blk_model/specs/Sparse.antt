@@ -12,7 +12,7 @@ abbrev pub piece_in : Option (ℕ × ℕ) → ℕ → ℕ
 piece_in None block = 0
 piece_in (Some partial) block = if partial.0 == block then partial.1 else 0
 
--- whether a write from a place on makes present what it covers of the place's own block: it begins with the block, or the bytes of the block before the place
+-- whether a write from a place on makes present what it writes of the place's own block: it begins with the block, or the bytes of the block before the place
 -- are present
 unfoldable pub counts_from : Presence → ℕ → Bool
 counts_from presence place = place % part_block_size == 0 || is_block_present presence (place / part_block_size) || nat_le (place % part_block_size) (piece_in presence.partial (place / part_block_size))

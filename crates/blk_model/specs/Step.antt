@@ -12,7 +12,7 @@ use Rattle.blk_model.specs.Room.{Group, items_of_group, total, items, without}
 use Rattle.blk_model.specs.Effects.{object_of, stream_of, effect}
 use Rattle.blk_model.specs.Refusals.{refused, evicted}
 
--- the reply to a command that was not refused, which evicted these groups
+-- the reply to a command that was not refused, which evicted these eviction units
 unfoldable pub reply : Request → List Group → State → Reply
 reply (to_create handle key) groups state = answered answer.Done
 reply (to_open handle key) groups state = answered answer.Done
@@ -30,13 +30,14 @@ reply to_list groups state = showed (rows state)
 reply (to_trim bytes) groups state = answered (answer.Trimmed (sum_by (λ group. length (items_of_group group)) groups))
 reply to_total groups state = answered (answer.Totals (items state) (total state))
 
--- what a command gives: the evicted groups, the reply and the new state
+-- what a command gives: the eviction units that go, the reply and the new state
 pub record Outcome : Type 0 where
   pub groups : List Group
   pub reply : Reply
   pub state : State
 
--- the outcome of a command that was refused for this reason or not: a refusal changes nothing; else the groups are evicted, and then the command has its effect
+-- the outcome of a command that was refused for this reason or not: a refusal changes nothing; else the eviction units are evicted, and then the command has
+-- its effect
 unfoldable pub outcome : ℕ → Request → State → Option Refusal → Outcome
 outcome moment request state (Some why) = record { groups = []; reply = answered (answer.Refused why); state = state }
 outcome moment request state None =

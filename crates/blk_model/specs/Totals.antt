@@ -7,11 +7,11 @@ use Rattle.blk_model.specs.State.{Object, State}
 use Rattle.blk_model.specs.Holding.{owner_object, rows}
 use Rattle.blk_model.specs.Room.{own_charge, total, items}
 
--- the signature of the live object with a key
+-- the generation of the live object with a key
 abbrev pub signature_for : State → List ℕ → ℕ
 signature_for state key = option_map_or (λ object. signature_of object.shape) (owner_object state (main key)) 0
 
--- the cost of a row of a state; the name of a part has its parent's signature
+-- the cost of a row of a state; the name of a part has its parent's generation
 abbrev pub row_charge : State → Row → ℕ
 row_charge state (main_row key shape streams) = main_charge key shape streams
 row_charge state (part_row key n value) = part_charge key (signature_for state key) n value

@@ -1,4 +1,4 @@
--- The counters of the index are written, and count one entry less.
+-- The counters of the index are written, and count one item less.
 use Rattle.std.proofs.Common.{◌≡◌, ℕ, ◌+◌, ◌/◌, ◌%◌, ◌<◌, ◌≤◌, List, [], ◌∷◌, refl, sym, ap, ◌∙◌, subst, arith, lit≤}
 use Rattle.std.specs.Prelude.{◌^◌, ◌-◌, length}
 use Rattle.std.specs.Option.{ForSome}

@@ -48,7 +48,7 @@ FreesNext next t n = ForSome t.files (λ now. AreFreeable next now → ForSome n
 abbrev pub StopsNext : List ℕ → Told → Told → Type 0
 StopsNext next t n = ForSome t.files (λ now. AreFreeable next now → Passes t n (AreGoing next now))
 
--- what is left of some words may be on its way where that of a prefix of them is
+-- what is left of some words may be under way where that of a prefix of them is
 more-going : (left others : List ℕ) (from image : Image) → IsNextGoing left from image → IsNextGoing (left ++ others) from image
 more-going [] [] from image is = is
 more-going [] (w ∷ others) from image is = inl is

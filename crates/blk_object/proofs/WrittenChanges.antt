@@ -64,7 +64,7 @@ either-data F G f g = record {
   sizes = λ n. or-false (f.sizes n) (g.sizes n);
 }
 
--- ---- what is covered
+-- ---- which bytes are those of the record and the node
 
 abbrev pub touched_of : ℕ → ℕ → Claim → Bool
 touched_of entry w = has_claim (claims_of entry ++ claims_of w)

@@ -1,4 +1,4 @@
--- The counters of the index, and how they change with the number of items and their cost.
+-- The counters of the index, and how they change with the number of items and their costs.
 use Rattle.std.specs.Prelude.{◌≡◌, ℕ, ◌+◌, ◌%◌, ◌^◌, ◌<◌, List, length}
 use Rattle.spec_image.specs.Image.{Image, Index, byte}
 use Rattle.blk_model.specs.State.{State}
@@ -8,7 +8,7 @@ use Rattle.blk_object.specs.declared.counters.Counters.{Counters}
 use Rattle.law_state.specs.CounterLaws.{AreCountersWritten, charged}
 use Rattle.law_state.specs.Keeping.{CountsItems, Keeps, KeepsUncounted}
 
--- `counters` are the counters of the index: of entries, of bytes, and the first word of `sizes`
+-- `counters` are the counters of the index: of items, of bytes, and the first word of `sizes`
 pub record AreIndexCounters (counters : Counters) (image : Image) : Type 0 where
   pub entries : counters.entries ≡ num_entries_of (byte image Index)
   pub bytes : counters.bytes ≡ num_bytes64_of (byte image Index)

@@ -1,4 +1,4 @@
-// The counters of the index: the number of entries and the sum of their costs.
+// The counters of the index: the number of listed items and the sum of their costs.
 ghost use Rattle.std.specs.Prelude.{◌≡◌, ◌<◌, ◌+◌, ◌/◌, ◌%◌, ◌^◌, [], None, IfOk, OnErr, OnOk};
 ghost use Rattle.std.specs.Option.{ForSome};
 ghost use Rattle.spec_image.specs.Told.{Passes, MayWrite, ReadsOnly};
@@ -21,7 +21,7 @@ use blk_record::{IndexHead, WORD_VALUES};
 /// The counters of the index.
 #[derive(Clone, Copy)]
 pub(crate) struct Counters {
-    /// The number of entries.
+    /// The number of listed items.
     pub entries: u32,
     /// The sum of their costs.
     pub bytes: u64,
@@ -46,7 +46,7 @@ pub(crate) fn read_counters<F: Folder>(folder: &mut F) -> Result<Counters, Fault
     })
 }
 
-/// Raises the counters of the index by one entry and its cost: three folder calls write them.
+/// Raises the counters of the index by one item and its cost: three folder calls write them.
 pub(crate) fn count_entry<F: Folder>(
     folder: &mut F,
     files: &BlockFiles,
@@ -65,7 +65,7 @@ pub(crate) fn count_entry<F: Folder>(
     set_counters(folder, files, entries, bytes, size)
 }
 
-/// Lowers the counters of the index by one entry and its cost: three folder calls read them, and three write them.
+/// Lowers the counters of the index by one item and its cost: three folder calls read them, and three write them.
 pub fn count_less<F: Folder>(folder: &mut F, files: &BlockFiles, charge: u64) -> Result<(), Fault>
     requires is_open { ForSome (F.told folder.old).files (IsOpen files.now) }
     ensures counted { OnOk result (ForSome (F.told folder.old).files (λ from. ForSome (F.told folder.new).files (AreCountedLess charge from))) }
@@ -84,7 +84,7 @@ pub fn count_less<F: Folder>(folder: &mut F, files: &BlockFiles, charge: u64) ->
     Ok(())
 }
 
-/// Raises the counters of the index by so many entries and a cost: three folder calls read them, and three write them.
+/// Raises the counters of the index by so many items and a cost: three folder calls read them, and three write them.
 pub fn count_more<F: Folder>(
     folder: &mut F,
     files: &BlockFiles,

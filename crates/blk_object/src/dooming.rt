@@ -56,8 +56,8 @@ pub fn doom_record<F: Folder>(folder: &mut F, files: &BlockFiles, entry: Addr) -
 }
 
 /// Dooms a live object without parts that a handle names: its main item is taken out of the LRU list and of its chain,
-/// its record gets the state of a doomed one, and the index counts one entry less, and its cost no longer. Nothing
-/// is freed: its places stay its until the last handle is closed.
+/// its record gets the state of a doomed one, and the index counts one item less, and its cost no longer. Nothing
+/// is freed: its places stay its own until the last handle is closed.
 ///
 /// Its record is in its chain after the record before, or is the first; and it names this node. This takes as many
 /// folder calls as `take_out`, four for the record, and six for the counters.

@@ -28,7 +28,7 @@ pub fn free_places<F: Folder>(
     requires stand { All (IsPlaceAmong files.now) places.now }
     requires is_open { ForSome (F.told folder.old).files (IsOpen files.now) }
 
-    // Places that are nobody's are freed. At each word those of a prefix are, and the next one is on its way.
+    // Places without an owner are freed. At each word those of a prefix are, and the next one perhaps in part.
     ensures freed { OnOk result (ForSome (F.told folder.old).files (λ from. AreFreeable (words_at places.now) from → ForSome (F.told folder.new).files (Removes (words_at places.now) from))) }
     ensures stops { ForSome (F.told folder.old).files (λ from. AreFreeable (words_at places.now) from → Passes (F.told folder.old) (F.told folder.new) (AreGoing (words_at places.now) from)) }
 
@@ -37,7 +37,7 @@ pub fn free_places<F: Folder>(
     // Corruption is a check that fails on what is read here; nothing is written after it.
     ensures damaged { IfDamaged result (IsFailedCheck files.now (F.told folder.new)) }
 
-    // An observable folder reports corruption only for a place that is somebody's.
+    // An observable folder reports corruption only for a place that has an owner.
     ensures untold { ForSome (F.told folder.old).files (AreFreeable (words_at places.now)) → IfDamaged result (λ _. (F.told folder.old).files ≡ None) }
 
     ensures writes { MayWrite F.told F.faults folder.old folder.new (IfDevice result) }

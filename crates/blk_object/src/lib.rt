@@ -1,4 +1,4 @@
-//! The objects of a folder that keeps a state of the map: how one is made, and how one goes, with what is found at each word.
+//! The objects of a folder that keeps a state of the model: how one is made and removed, and what is recovered after a crash at each word.
 #![tactic(auto)]
 
 mod call_laws;

@@ -41,7 +41,7 @@ pub struct Made {
 
 /// Makes a new object without streams, with a key that no other has.
 ///
-/// Its places are taken first, and its entry is written there, with the number of the session as its dirty flag. Then its
+/// Its places are allocated first, and its entry is written there, with the number of the session as its dirty flag. Then its
 /// node comes in front of the LRU list, its record in front of its chain, and the index counts it. A failed check is
 /// one that the calls below find, an index that hasn't its length, or blocks that were given twice. A key that lies in
 /// its record takes at most 71 folder calls where no file grows.

@@ -1,4 +1,4 @@
-// The places of a new entry are taken.
+// The places of a new entry are allocated.
 ghost use Rattle.std.specs.Prelude.{◌≡◌, ◌≢◌, ◌+◌, ◌==◌, ◌<◌, ◌≤◌, [], ◌∷◌, true, false, None, Some, IfOk, OnOk, IsTrue, nat_le};
 ghost use Rattle.std.specs.Option.{ForSome};
 ghost use Rattle.spec_image.specs.Image.{External as external_file, length_of};
@@ -70,7 +70,7 @@ pub fn take_places<F: Folder>(
     })
 }
 
-// Takes the storage of a key of so many bytes, where it doesn't lie in its record, for one byte more.
+// Allocates the storage of a key of so many bytes, where it doesn't lie in its record, for one byte more.
 fn take_long_key<F: Folder>(
     folder: &mut F,
     files: &mut BlockFiles,
@@ -95,7 +95,7 @@ fn take_long_key<F: Folder>(
     Ok(Some(addr))
 }
 
-// Takes blocks or an external file for data of a size.
+// Allocates blocks or an external file for data of a size.
 fn take_storage<F: Folder>(folder: &mut F, files: &mut BlockFiles, size: u32) -> Result<Addr, Fault>
     requires some { 0 < size }
     requires is_open { ForSome (F.told folder.old).files (IsOpen files.old) }
@@ -123,7 +123,7 @@ fn is_external(kind: Kind) -> bool
     kind == Kind::External
 }
 
-// Takes blocks of a kind, as many as are asked for.
+// Allocates blocks of a kind, as many as are asked for.
 fn take_blocks<F: Folder>(
     folder: &mut F,
     files: &mut BlockFiles,
@@ -189,7 +189,7 @@ pub fn check_index<F: Folder>(folder: &mut F) -> Result<(), Fault>
     Ok(())
 }
 
-// Looks whether a long key shares no block with its record, to which the maps may not have given one twice.
+// Checks that a long key shares no block with its record: where maps are wrong, both may have been given the same one.
 fn check_apart(entry: Addr, long_key: &Option<Addr>) -> Result<(), Fault>
     requires kind { kind_of entry ≡ blocks_256 }
     ensures apart { OnOk result (LiesApart entry long_key.now) }

@@ -78,7 +78,7 @@ pub fn free_owned<F: Folder>(folder: &mut F, files: &BlockFiles, owned: &Owned) 
     requires stand { All (IsPlaceAmong files.now) owned.now.places }
     requires is_open { ForSome (F.told folder.old).files (IsOpen files.now) }
 
-    // Places that are nobody's are freed. At each word those of a prefix are, and the next one is on its way.
+    // Places without an owner are freed. At each word those of a prefix are, and the next one perhaps in part.
     ensures freed { OnOk result (ForSome (F.told folder.old).files (λ from. AreFreeable (words_at owned.now.places) from → ForSome (F.told folder.new).files (Removes (words_at owned.now.places) from))) }
     ensures stops { ForSome (F.told folder.old).files (λ from. AreFreeable (words_at owned.now.places) from → Passes (F.told folder.old) (F.told folder.new) (AreGoing (words_at owned.now.places) from)) }
 
@@ -87,7 +87,7 @@ pub fn free_owned<F: Folder>(folder: &mut F, files: &BlockFiles, owned: &Owned) 
     // Corruption is a check that fails on what is read here; nothing is written after it.
     ensures damaged { IfDamaged result (IsFailedCheck files.now (F.told folder.new)) }
 
-    // An observable folder reports corruption only for a place that is somebody's.
+    // An observable folder reports corruption only for a place that has an owner.
     ensures untold { ForSome (F.told folder.old).files (AreFreeable (words_at owned.now.places)) → IfDamaged result (λ _. (F.told folder.old).files ≡ None) }
 
     ensures writes { MayWrite F.told F.faults folder.old folder.new (IfDevice result) }

@@ -7,7 +7,7 @@ use Rattle.spec_folder.specs.Layout.{Layout}
 use Rattle.blk_sparse.specs.SparseObjects.{KeepsParent}
 use Rattle.blk_print.specs.declared.present_printing.PresentRange.{PresentRange}
 
--- the folder keeps some state in which a live sparse object has the range's node and record, and all bytes of the range are valid
+-- the folder keeps some state in which a live sparse object has the range's node and record, and all bytes of the range are present
 pub record HasPresent (range : PresentRange) (image : Image) : Type 0 where
   pub state : State
   pub layout : Layout

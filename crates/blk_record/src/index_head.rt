@@ -45,10 +45,10 @@ impl<'a> IndexHead<'a> {
     /// The place of the version.
     pub const VERSION_PLACE: u64 = 4;
 
-    /// The place of the number of entries.
+    /// The place of the number of listed items.
     pub const NUM_ENTRIES: u64 = 8;
 
-    /// The place of the number of bytes in the first version; a later one has 0 there.
+    /// The place of the sum of the items' costs in the first version; the later one has 0 there.
     pub const NUM_BYTES: u64 = 12;
 
     /// The place of the last external number that was made.
@@ -63,10 +63,10 @@ impl<'a> IndexHead<'a> {
     /// The place of the word that is 1 while a session is open.
     pub const CRASH: u64 = 32;
 
-    /// The place of the moment of making, which takes two words.
+    /// The place of the creation time, which takes two words.
     pub const CREATE_TIME: u64 = 40;
 
-    /// The place of the number of bytes, which takes two words.
+    /// The place of the sum of the items' costs, which takes two words; the first version has none.
     pub const NUM_BYTES64: u64 = 48;
 
     /// The place of the length of the LRU list.
@@ -176,7 +176,7 @@ impl<'a> IndexHead<'a> {
         word(self.window, 36)
     }
 
-    /// The moment of making, in microseconds since 1970.
+    /// The creation time, in microseconds since 1970.
     pub fn create_time(&self) -> u64
         ensures { result ≡ create_time_of (content self.now) }
     {

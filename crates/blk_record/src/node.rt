@@ -36,7 +36,7 @@ impl<'a> NodeView<'a> {
     /// The place of the address of the node's record.
     pub const CONTENTS: u32 = 24;
 
-    /// The place of the word that says whether the entry is in use.
+    /// The place of the dirty flag: 0, or the number of the session that made the object dirty.
     pub const DIRTY: u32 = 28;
 
     /// The view of a window that has the bytes.

@@ -46,7 +46,7 @@ impl<'a> SparseHead<'a> {
         Some(SparseHead::new(window))
     }
 
-    /// The signature, which parts share with their parent.
+    /// The generation, which parts share with their parent.
     pub fn signature(&self) -> i64
         ensures { result ≡ sparse_signature_of (content self.now) }
     {

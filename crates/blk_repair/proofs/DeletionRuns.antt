@@ -351,7 +351,7 @@ blocks-begin files a is = record {
   clean = λ from there only. refl;
 }
 
--- a call that stayed
+-- a call without a step
 pub blocks-stay : {files : BlockFiles} {last : ℕ} {a b c : Told} → HasDeletedBlocks files last a b → c ≡ b → HasDeletedBlocks files last a c
 blocks-stay {files} {last} {a} {b} {c} has stays = subst (HasDeletedBlocks files last a) (sym stays) has
 

@@ -143,17 +143,17 @@ ends-then {a} {b} {c} {P} {Q} first ends =
       leaves = ends.leaves;
     }
 
--- a call that stayed comes before
+-- a call without a step comes before
 pub ends-stayed : {a m b : Told} {P Q : Image → Type 0} → m ≡ a → EndsWithCrashWord m b P Q → EndsWithCrashWord a b P Q
 ends-stayed {a} {m} {b} {P} {Q} stays ends = subst (λ (t : Told). EndsWithCrashWord t b P Q) stays ends
 
--- a call that stayed comes after
+-- a call without a step comes after
 pub ends-stay : {a b c : Told} {P Q : Image → Type 0} → EndsWithCrashWord a b P Q → c ≡ b → EndsWithCrashWord a c P Q
 ends-stay {a} {b} {c} {P} {Q} ends stays = subst (λ (t : Told). EndsWithCrashWord a t P Q) (sym stays) ends
 
 -- ---- one or the other
 
--- a call that stayed comes before
+-- a call without a step comes before
 pub either-stayed : {a m b : Told} {P Q : Image → Type 0} → m ≡ a → EndsOrBreaksOff m b P Q → EndsOrBreaksOff a b P Q
 either-stayed {a} {m} {b} {P} {Q} stays either = subst (λ (t : Told). EndsOrBreaksOff t b P Q) stays either
 

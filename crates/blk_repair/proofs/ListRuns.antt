@@ -119,7 +119,7 @@ module _ (old : Told) (nodes others : List ℕ) where
   completing-part mid part = stopped (begun old old (mending_steps nodes others) refl) completion_steps (steps_from_end nodes others) mid (completion-leads nodes others) part
 
   module _ (mid : Told) (made : ForSome old.files (λ from. Applies old mid (completion_steps from))) (silent : old.files ≡ None → mid.files ≡ None) where
-    -- the operation in flight was completed
+    -- the operation in flight was redone
     pub completed-first : Progress old mid (mending_steps nodes others) (steps_from_end nodes others)
     completed-first = went_on (begun old old (mending_steps nodes others) refl) completion_steps (steps_from_end nodes others) mid (completion-leads nodes others) made silent
 

@@ -44,7 +44,7 @@ pub rebuilding-passes : (a b : Told) (claims : Claims) (numbers : List ℕ) → 
 rebuilding-passes a b claims numbers all from there entry keeps =
     passes_weaker (forget a b (IsRebuilding claims numbers from) (all from there)) (λ i moment. moment-keeps entry from claims numbers i keeps moment) (λ i moment. moment-keeps entry from claims numbers i keeps moment)
 
--- the last moment
+-- after the last step
 pub rebuilding-ends : (a b : Told) (claims : Claims) (numbers : List ℕ) → ForSome a.files (λ from. PassesNeeded a b (IsRebuilding claims numbers from)) → ForSome a.files (λ from. ForSome b.files (IsRebuilding claims numbers from))
 rebuilding-ends a b claims numbers all from there = passes_end (forget a b (IsRebuilding claims numbers from) (all from there))
 

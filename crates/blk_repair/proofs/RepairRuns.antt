@@ -324,7 +324,7 @@ chains-clean a b from mended made = told_same a b (subst (Applies a b) (links-no
 pub list-clean : (a b : Told) (nodes others : List ℕ) (from : Image) → IsListScanned nodes others from → HasMendedLinks from → Applies a b (mending_steps nodes others from) → b ≡ a
 list-clean a b nodes others from scanned mended made = told_same a b (subst (Applies a b) (sym (steps-are from nodes others scanned) ∙ (links-none from mended).0) made)
 
--- a call that stayed leaves the files
+-- a call without a step leaves the files
 pub here-still : {a b : Told} (from : Image) → a.files ≡ Some from → b ≡ a → b.files ≡ Some from
 here-still from there same = ap (λ (t : Told). t.files) same ∙ there
 

@@ -68,7 +68,7 @@ next-is old now records ends whole bucket front own told from inside own-is told
 now-there : (old now : Told) (from : Image) (bucket : ℕ) (to : IsMendedTo old now from bucket) → old.files ≡ Some from → now.files ≡ Some (after to.done from)
 now-there old now from bucket to there = to.applies.files ∙ ap (option_map (after to.done)) there
 
--- a call that stayed leaves it so
+-- a call without a step leaves it so
 pub stays-mended : {old now next : Told} {records ends : List ℕ} {whole : List Bool} {bucket : ℕ} → next ≡ now → AreMendedTo old now records ends whole bucket → AreMendedTo old next records ends whole bucket
 stays-mended {old} {now} {next} {records} {ends} {whole} {bucket} same are = subst (λ (t : Told). AreMendedTo old t records ends whole bucket) (sym same) are
 

@@ -39,7 +39,7 @@ pub fn mend_index<F: Folder>(
 
     ensures complete { ForSome (F.told folder.new).files HasWholeIndex }
 
-    // The sum has room in its two words.
+    // The sum fits in its two words.
     ensures fits { bytes < 2 ^ 64 }
 
     // An observable folder reports no corruption.

@@ -25,7 +25,7 @@ const LAST_FIRST_FILE: u8 = 3;
 /// Deletes each block file that exists and isn't linked.
 ///
 /// This takes one `list` call, and one more for each block file from `data_4` on; each file that goes takes a `delete`
-/// call. `Failed` comes only where the folder failed in this call; a prefix of the deletions has then lasted.
+/// call. `Failed` comes only where the folder failed in this call; a prefix of the deletions was then made.
 pub fn delete_unlinked<F: Folder>(folder: &mut F, files: &BlockFiles) -> Result<(), Failed>
     requires is_open { ForSome (F.told folder.old).files (IsOpen files.now) }
     ensures linked { OnOk result (ForSome (F.told folder.new).files OnlyLinked) }
@@ -56,7 +56,7 @@ pub fn delete_unlinked<F: Folder>(folder: &mut F, files: &BlockFiles) -> Result<
 ///
 /// A number that no address has isn't used. This takes one `list` call, and one more for each external file; each file
 /// that goes takes a `delete` call. `Failed` comes only where the folder failed in this call; a prefix of the deletions
-/// has then lasted.
+/// was then made.
 pub fn delete_unclaimed<F: Folder>(folder: &mut F, claims: &Claims) -> Result<(), Failed>
     // With the used blocks of what is kept, the external files that are there are those that it uses.
     ensures claimed { OnOk result (ForSome (F.told folder.old).files (λ from. (entry : Image) → IsNextRebuilt entry claims.now from → ForSome (F.told folder.new).files (λ image. OnlyClaimed image (claims_of_loaded (kept image))))) }

@@ -19,7 +19,7 @@ use blk_lru::{complete, end_at};
 /// Recovers the LRU list: the operation in flight is redone, the last of the walked nodes becomes the end of the list, and each walked node that isn't kept is
 /// removed, in the order of the list.
 ///
-/// `walked` are the nodes that completing leaves, and `kept` those of them that are kept, in the same order. A list that is
+/// `walked` are the nodes that the redo leaves, and `kept` those of them that are kept, in the same order. A list that is
 /// whole and idle with the kept nodes takes 3 folder calls. A failed check is one of the calls on the list.
 pub fn mend_list<F: Folder>(
     folder: &mut F,

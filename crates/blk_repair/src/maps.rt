@@ -20,7 +20,7 @@ use blk_io::{Fault, Folder};
 /// Rebuilds the linked block files: their lengths, maps and counters become those of what is kept, whose addresses `claims` has.
 ///
 /// A word is written only where it differs, and a length only where the file is too short. A failed check is a read of
-/// a header that gave too few bytes, which needs an opaque folder.
+/// a header that gave too few bytes, which only an opaque folder does.
 pub fn mend_files<F: Folder>(
     folder: &mut F,
     files: &mut BlockFiles,

@@ -171,7 +171,7 @@ module _ (far : SoFar) (moment : ℕ) (request : Request) (keeps_old keeps : Sta
           none_more : length far.done ≡ length far.done + 0
           none_more = omega arith
 
-      -- what the cache says of a refusal, where no note was told
+      -- a refused command that failed before its note left all as it was
       untouched : FailsBefore keeps_old old new moment request w_old w_new → is_refused (step (state_now far) moment request) ≡ true → Stays old new
       untouched fails is = fails.spares at.image at.here (state_now far) at.kept (is_refusal_told (answer_of (step (state_now far) moment request).reply) is)
 

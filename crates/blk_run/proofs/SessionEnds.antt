@@ -210,7 +210,7 @@ opened_at None middle is_open silent opened image here = absurd (no_image (sym (
     no_image e = cc
 opened_at (Some from) middle is_open silent opened image here = opened from refl image here
 
--- the count rose since an earlier moment
+-- the count rose since an earlier value
 pub rises_since : (a b c : ℕ) → a ≤ b → Rises b c → Rises a c
 rises_since a b c less rises few = let r = rises few in omega (arith, r, less)
 

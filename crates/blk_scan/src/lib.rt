@@ -1,4 +1,4 @@
-//! What a cache folder holds, reported as a whole: the audit of its LRU list, its chains and their records.
+//! What a cache folder holds, reported as a whole: the consistency check of its LRU list, its chains and their records.
 #![tactic(auto)]
 
 mod bare;

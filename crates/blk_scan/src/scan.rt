@@ -1,4 +1,4 @@
-// What the audit of a folder reports.
+// What the consistency check of a folder reports.
 ghost use Rattle.std.specs.Prelude.{◌≡◌, length, slice_get};
 ghost use Rattle.std.specs.Option.{option_copied};
 
@@ -14,7 +14,7 @@ pub struct Kept {
     pub node: Addr,
     /// The address of its record.
     pub entry: Addr,
-    /// Whether the record is a part of a sparse stream.
+    /// Whether the record is that of a part of a sparse entry.
     pub child: bool,
 }
 
@@ -27,7 +27,7 @@ pub struct Dropped {
     pub reason: Reason,
 }
 
-/// What the audit of a folder reports: its walked nodes, what is kept and dropped of them, what the kept ones own, and what recovery repairs.
+/// What the consistency check of a folder reports: its walked nodes, what is kept and dropped of them, what the kept ones own, and what recovery repairs.
 #[derive(Drop)]
 pub struct Scan {
     pub(crate) walked: Vec<Addr>,

@@ -1,4 +1,4 @@
-// The audit of a folder.
+// The consistency check of a folder.
 ghost use Rattle.std.specs.Prelude.{◌≡◌, ◌≤◌, IfOk, None, Some, length};
 ghost use Rattle.std.specs.Option.{ForSome};
 ghost use Rattle.spec_image.specs.Image.{Image};
@@ -31,7 +31,7 @@ use blk_io::Folder;
 use blk_verdict::{Judged, charge_of_all, judge_nodes, unlisted};
 use std::alloc::Global;
 
-/// Reports what a folder holds, as it is once its operation in flight is completed. An uninitialized folder holds nothing. Nothing is written.
+/// Reports what a folder holds, as it is once its operation in flight is redone. An uninitialized folder holds nothing. Nothing is written.
 ///
 /// The index is looked at; where it is initialized the block files are loaded, and the folder is scanned by them. The folder
 /// calls are those of `look`, `BlockFiles::load` and `scan_files`.
@@ -74,7 +74,7 @@ fn scan_finished<F: Folder>(alloc: Global, folder: &mut F) -> Result<Scan, ScanF
     scan_files(alloc, folder, &files)
 }
 
-/// Reports what a folder holds whose block files were loaded, as it is once its operation in flight is completed. Nothing is written.
+/// Reports what a folder holds whose block files were loaded, as it is once its operation in flight is redone. Nothing is written.
 ///
 /// The folder calls are those of `read_lists`, `judge_nodes` and `unlisted`. A failed check is a read that gave too few
 /// bytes; a folder whose files are those of `files` gives none. `Device` comes only where the folder failed in this

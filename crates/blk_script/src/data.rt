@@ -52,7 +52,7 @@ pub fn decode_data<'a>(field: &[u8], buffer: &'a mut [u8]) -> Result<&'a [u8], L
 }
 
 // Decodes two digits for each byte by the table. False where a byte of the field is no digit or
-// their number is odd; then some bytes may be written, and which isn't told.
+// their number is odd; then some bytes may be written, and no clause says which.
 fn decode_digits(field: &[u8], bytes: &mut [u8]) -> bool
     requires { length bytes.old ≡ length field.now / 2 }
     ensures value { result ≡ true → decode_of field.now ≡ Ok bytes.new }

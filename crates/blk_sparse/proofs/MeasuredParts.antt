@@ -1,4 +1,4 @@
--- Covered parts, as they are measured before a write.
+-- The parts in range, as they are measured before a write.
 use Rattle.std.proofs.Common.{◌≡◌, ℕ, ◌+◌, ◌-◌, ◌/◌, ◌%◌, ◌≤◌, ◌<◌, List, [], ◌∷◌, length, take, true, Option, None, Some, refl, sym, ◌∙◌, ap, ap₂, subst, arith}
 use Rattle.std.proofs.lemmas.List.{take-take}
 use Rattle.std.specs.Prelude.{IfSome, max, slice_index, sum_by, unwrap_or}

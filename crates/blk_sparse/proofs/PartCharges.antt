@@ -84,7 +84,7 @@ items-piece object sorted n place piece =
     let long = length-put nat_cmp nat_cmp_total n (part_after (value_or_empty object n) place piece) object.parts sorted ∙ missing-more object n (part_at object n) refl in
     omega (arith, long)
 
--- ---- all that are covered
+-- ---- all parts in range
 
 -- another part is as it was
 part-same : (object : Object) (n m place : ℕ) (piece : List ℕ) → (m == n) ≡ false → part_at (with_piece object n place piece) m ≡ part_at object m

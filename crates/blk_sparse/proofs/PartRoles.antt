@@ -24,7 +24,7 @@ or-le : (b : Bool) (n size more : ℕ) → size ≤ more → (not b || nat_le n 
 or-le false n size more le e = refl
 or-le true n size more le e = let low = leb-true n size e in le-leb n more (omega (arith, le, low))
 
--- what is covered by data is covered by more data
+-- what an index says is present within some bytes of data is within more of them
 pub covered-more : (index : PartIndex) (size more : ℕ) → size ≤ more → is_covered index size ≡ true → is_covered index more ≡ true
 unfolding is_covered
 covered-more index size more le e =
@@ -39,7 +39,7 @@ covered-more index size more le e =
 present-at : (present : ℕ → Bool) (n block : ℕ) → block < n → slice_index_or (map present (range_with_len 0 n)) block false ≡ present block
 present-at present n block below = get_or-map-range_with_len present 0 n block block false below (omega arith)
 
--- what lies inside data is covered by it
+-- present bytes that lie within the data pass the test of the index
 pub covered-from : (index : PartIndex) (size : ℕ) → LiesInside (presence_in index) size → is_covered index size ≡ true
 unfolding is_covered presence_in
 covered-from index size inside = and_from _ _ (whole 1024 inside.whole) (piece index.partial inside.piece) where

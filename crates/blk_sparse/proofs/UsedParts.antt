@@ -1,4 +1,4 @@
--- The parts that a range covers are accessed, one after the other.
+-- The parts in range are accessed, one after the other.
 use Rattle.std.proofs.Common.{◌≡◌, ◌≢◌, inl, inr, ℕ, zero, suc, ◌+◌, ◌<◌, ◌≤◌, ap₂, append-nil, List, [], ◌∷◌, ◌++◌, map, refl, ap, sym, ◌∙◌, subst, arith, append_assoc, Bool, true, false, Some, None}
 use Rattle.std.specs.Prelude.{◌-◌, ◌/◌, ◌==◌, filter, is_some, if◌then◌else◌}
 use Rattle.std.specs.Option.{ForSome}
@@ -70,7 +70,7 @@ existing-more object n ns = by (is_some (part_at object n)) where
   by true = refl
   by false = refl
 
--- those that a range covers: of no byte, of one part, of two
+-- those in range: of no byte, of one part, of two
 pub used-no-part : (object : Object) (offset count : ℕ) → count ≡ 0 → [] ≡ parts_used object offset count
 used-no-part object offset count none = sym (ap (λ (n : ℕ). parts_of object (existing_parts object (covered_parts offset n))) none ∙ ap (λ (ns : List ℕ). parts_of object (existing_parts object ns)) (covered-none offset))
 

@@ -20,7 +20,7 @@ use Rattle.blk_object.specs.Owning.{LoadsWith}
 use Rattle.blk_ranges.specs.PartMaps.{presence_in}
 use Rattle.blk_sparse.specs.SparseObjects.{CanGetParts, HasPartAt, KeepsParent, OthersLieAsBefore, with_piece}
 
--- the bytes are an index of a part, with the bitmap of an old index and the bytes from `from` to `to` marked as valid in it
+-- the bytes are an index of a part, with the bitmap of an old index and the bytes from `from` to `to` marked as present in it
 pub record NotesWrite (old : PartIndex) (from to : ℕ) (bytes : List ℕ) : Type 0 where
   pub index : PartIndex
   pub is : read_part_index bytes ≡ Some index
@@ -63,7 +63,7 @@ pub record IsChangedUnused (state : State) (old : Layout) (unlinked : List ℕ) 
 
 -- The order of its writes.
 
--- the data of the piece is written before the bitmap: at some moment between, the folder keeps the state in which the part has the new bytes and its old
+-- the data of the piece is written before the bitmap: after some step between, the folder keeps the state in which the part has the new bytes and its old
 -- bitmap; before and after that, recovery gives the old durable contents
 pub record IsDataBeforeMap (state : State) (unlinked : List ℕ) (number : ℕ) (object : Object) (n place : ℕ) (piece : List ℕ) (old new : Told) : Type 0 where
   pub between : Told

@@ -216,7 +216,7 @@ ForEachLacking entry child name from P =
 
 -- The order of its writes.
 
--- a new part is written and linked before its bit is set: at some moment between, the part is in the list and in its chain, and its parent is unchanged; after
+-- a new part is written and linked before its bit is set: after some step between, the part is in the list and in its chain, and its parent is unchanged; after
 -- it nothing but the byte with the bit is written
 pub record IsWholeBeforeItsBit (files : BlockFiles) (state : State) (layout : Layout) (key name : List ℕ) (n parent : ℕ) (old new : Told) : Type 0 where
   pub between : Told

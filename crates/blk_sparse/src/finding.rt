@@ -28,10 +28,10 @@ pub struct PartRecords {
     pub second: Option<Addr>,
 }
 
-/// The parts of an object that `count` bytes from an offset on cover, one or two; nothing is changed.
+/// The parts of an object that are in the range of `count` bytes from an offset on, one or two; nothing is changed.
 ///
 /// The key is read from the parent's record into the front of `name`, and the names of the parts are made after the
-/// longest key. For each covered part there are the calls of `find`.
+/// longest key. For each part in range there are the calls of `find`.
 pub fn find_parts<F: Folder>(
     folder: &mut F,
     files: &BlockFiles,
@@ -73,7 +73,7 @@ pub fn find_parts<F: Folder>(
     find_covered(folder, files, parent, buffer, offset, count)
 }
 
-// Finds the parts of an object with a key that a range covers.
+// Finds the parts of an object with a key that are in range.
 fn find_covered<F: Folder>(
     folder: &mut F,
     files: &BlockFiles,

@@ -1,5 +1,5 @@
-//! Objects that go with their parts: the parts of a key in one walk over the LRU list, those of a parent, and a whole
-//! object with an index, of which one that a handle names stays.
+//! Sparse objects: how their parts are found, measured, read, written and accessed, and how an object is removed or
+//! doomed with its parts.
 #![tactic(auto)]
 
 mod beginning;

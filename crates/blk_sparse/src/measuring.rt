@@ -55,7 +55,7 @@ pub(crate) struct Piece {
 /// Measures what a write of some bytes adds to an object with parts. Nothing is written.
 ///
 /// The key is read from the parent's record into the front of `name`, and the names of the parts are made after the
-/// longest key. Each covered part is searched, and two folder calls read one that there is.
+/// longest key. Each part in range is searched, and two folder calls read one that exists.
 pub fn measure<F: Folder>(
     folder: &mut F,
     files: &BlockFiles,
@@ -93,7 +93,7 @@ pub fn measure<F: Folder>(
     )
 }
 
-// Measures the parts that a write covers, of an object with a key.
+// Measures the parts of an object with a key that are in range of a write.
 fn measure_covered<F: Folder>(
     folder: &mut F,
     files: &BlockFiles,
@@ -288,7 +288,7 @@ pub fn measure_plain<F: Folder>(
     Ok(measure_made(&key[..len], signature, buffer, offset, count))
 }
 
-// Measures the parts that a write covers, of an object with a key that has none.
+// Measures the parts in range of a write, for an object with a key that has no parts yet.
 fn measure_made(key: &[u8], signature: i64, buffer: &mut [u8], offset: u64, count: u64) -> Measured
     requires some_key { 1 ≤ length key.now }
     requires short_key { length key.now ≤ longest_key }

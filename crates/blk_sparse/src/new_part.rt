@@ -85,7 +85,7 @@ fn take_stream<F: Folder>(
     Ok(addr)
 }
 
-// Takes the places of a new part, and stores its first piece and its index.
+// Allocates the places of a new part, and stores its first piece and its index.
 fn take_part<F: Folder>(
     folder: &mut F,
     files: &mut BlockFiles,
@@ -319,7 +319,7 @@ fn first_index(child: &ChildName, place: u32, count: u32) -> [u8; 192]
 
 /// Makes a part that doesn't exist, of a dirty object, with a piece of its data, from a place in it on.
 ///
-/// Its places are taken and its two streams are stored first; then its entry is written there, and its record names the
+/// Its places are allocated and its two streams are stored first; then its entry is written there, and its record names the
 /// streams by one update under a checksum 0. Then its node comes in front of the LRU list, its record in front of its chain, and at
 /// last its parent gets its bit, where it hasn't. The counters of the index stay.
 pub(crate) fn make_part<F: Folder>(

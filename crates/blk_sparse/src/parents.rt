@@ -102,8 +102,8 @@ pub fn remove_parent_with<F: Folder, E: FnMut(u32)>(
 
 /// Dooms an object with an index, a parent, which a handle names: its main item is taken out, and counted no longer, nor
 /// is its cost; then each part goes, as `drop_parts_with` says; and its record gets the state of a doomed object last.
-/// Where no bit of its index is set, no list is walked. Nothing of the main item is freed: its places stay its until the
-/// last handle is closed. It answers how many parts were removed, and the sum of their costs.
+/// Where no bit of its index is set, no list is walked. Nothing of the main item is freed: its places stay its own until
+/// the last handle is closed. It answers how many parts were removed, and the sum of their costs.
 ///
 /// Its record is in its chain after the record before, or is the first; and it names this node. The index is read into
 /// `buffer`, and then the names of parts are made there. This takes as many folder calls as `take_main` and

@@ -1,4 +1,4 @@
-// The bytes of an object up to the first that isn't valid, read from its parts; nothing is changed.
+// The bytes of an object up to the first that isn't present, read from its parts; nothing is changed.
 ghost use Rattle.std.specs.Prelude.{◌≡◌, ◌≤◌, ◌<◌, ◌+◌, IfOk, IsTrue, None, length, take};
 ghost use Rattle.std.specs.Int.{cast_unsigned, w64};
 ghost use Rattle.std.specs.Option.{ForSome};
@@ -107,7 +107,7 @@ fn bytes_covered<F: Folder>(
     Ok(len + more)
 }
 
-// Reads the bytes of a part of an object from a position on, up to the first that isn't valid.
+// Reads the bytes of a part of an object from a position on, up to the first that isn't present.
 fn bytes_of_part<F: Folder>(
     folder: &mut F,
     files: &BlockFiles,

@@ -27,7 +27,7 @@ use blk_ranges::{LONGEST_KEY, child_of};
 /// front of the LRU list, and gets a moment as its times.
 ///
 /// The key is read from the parent's record into the front of `name`, and the names of the parts are made after the
-/// longest key. For each covered part there are the calls of `find`, and where there is the part one more and those of
+/// longest key. For each part in range there are the calls of `find`, and where there is the part one more and those of
 /// `touch`.
 pub fn use_parts<F: Folder>(
     folder: &mut F,
@@ -137,7 +137,7 @@ fn use_part<F: Folder>(
 }
 
 /// Reads the bytes of an object from an offset on up to the first that is not present, at most as many as `out` has, and
-/// accesses the parts that those places cover and that exist, also after the first absent byte. How many were read is
+/// accesses the parts that are in range and exist, also after the first absent byte. How many were read is
 /// given.
 ///
 /// The key is read from the parent's record into the front of `name`, and the names of the parts are made after the
@@ -186,7 +186,7 @@ pub fn read<F: Folder>(
 }
 
 /// The first run of present bytes of an object among `count` from an offset on, as its offset and its length; the offset
-/// and 0 where none is. The parts that those places cover and that exist are accessed.
+/// and 0 where none is. The parts that are in range and exist are accessed.
 ///
 /// The key is read from the parent's record into the front of `name`, and the names of the parts are made after the
 /// longest key. The calls are those of `find_run` and of `use_parts`.

@@ -1,4 +1,4 @@
-// The valid bytes of an object, read from its parts; nothing is changed.
+// The present bytes of an object, read from its parts; nothing is changed.
 ghost use Rattle.std.specs.Prelude.{◌≡◌, ◌≤◌, ◌<◌, ◌+◌, IfOk, IsTrue, None, length};
 ghost use Rattle.std.specs.Int.{cast_unsigned, w64};
 ghost use Rattle.std.specs.Option.{ForSome};
@@ -32,7 +32,7 @@ pub struct Run {
 /// The first run of present bytes of an object among `count` from an offset on; the offset and 0 where none is.
 ///
 /// Nothing is changed, and no part is accessed. The key is read from the parent's record into the front of `name`, and the
-/// names of the parts are made after the longest key. For each covered part there are the calls of `find`, and where
+/// names of the parts are made after the longest key. For each part in range there are the calls of `find`, and where
 /// there is the part two more.
 pub fn find_run<F: Folder>(
     folder: &mut F,

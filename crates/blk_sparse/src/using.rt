@@ -21,7 +21,7 @@ use blk_disk::BlockFiles;
 use blk_io::{Fault, Folder};
 
 /// The first run of present bytes of an object, as `range` finds it. The main item is accessed first, and then the parts that
-/// the range covers and that exist.
+/// are in range and exist.
 ///
 /// One folder call reads the parent's node, and then there are those of `touch` and of `range`.
 pub fn use_range<F: Folder>(

@@ -170,7 +170,7 @@ fn write_covered<F: Folder>(
     write_piece(folder, files, parent, key, buffer, back, moment)
 }
 
-/// Writes bytes to an object with parts, which is dirty, from an offset on. Each part that the range covers gets its
+/// Writes bytes to an object with parts, which is dirty, from an offset on. Each part in range gets its
 /// piece, in rising number: one that there is is changed, and one that there isn't is made. It is then in front of the
 /// LRU list. The counters of the index stay, and so does the object's main item. Of no bytes nothing is done.
 ///
@@ -192,7 +192,7 @@ pub fn write<F: Folder>(
     requires inside { data.offset + length data.bytes.now ≤ largest_offset }
     requires is_open { ForSome (F.told f.old).files (IsOpen files.old) }
 
-    // Each state that was kept, with such an object, is kept with the bytes written and the covered parts in front, but for the counters.
+    // Each state that was kept, with such an object, is kept with the bytes written and the parts in range in front, but for the counters.
     ensures written { OnOk result (ForSome (F.told f.old).files (λ from. ForEachGrowing (covered_parts data.entry.offset (length data.entry.bytes.now)) parent.now.node parent.now.entry (cast_unsigned w64 parent.now.signature) from (λ state layout unlinked number object. ForSome (F.told f.new).files (KeepsParentThen (with_bytes_written state number object data.entry.offset data.entry.bytes.now) layout unlinked number (with_bytes object data.entry.offset data.entry.bytes.now) parent.now.node parent.now.entry (cast_unsigned w64 parent.now.signature) from)))) }
 
     // At each word the old durable contents are recovered: a dirty object isn't durable.

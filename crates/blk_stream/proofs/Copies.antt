@@ -55,7 +55,7 @@ none_copied a files one other start end agrees = record {
 
 -- Data that lies apart.
 
--- the blocks of one address end before those of another of its type begin
+-- the blocks of one address end before those of another of its kind begin
 pub blocks_before : (u w : ℕ) → kind_of u ≡ kind_of w → first_block u + block_count u ≤ first_block w → place u + byte_size u ≤ place w
 unfolding place block_place byte_size block_size
 blocks_before u w same first = rw same (by_size (kind_of w == 1) (kind_of w == 2) (kind_of w == 3))

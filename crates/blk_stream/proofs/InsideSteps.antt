@@ -135,7 +135,7 @@ room_within w old size offset fits low =
     (cases_Bool (nat_le offset old))))
     (cases_Bool (kind_of w == external))
 
--- at each moment of making space and writing nothing but the data differs
+-- after each step of making space and writing nothing but the data differs
 pub here_outside : (from : Image) (w old size offset : ℕ) (bytes : List ℕ) → (kind_of w ≢ external → size ≤ byte_size w) → offset + length bytes ≤ size → Along (SameOutside (data_of w) from) from (here_steps w old size offset bytes)
 here_outside from w old size offset bytes fits few =
     let P : Image → Type 0 = SameOutside (data_of w) from in

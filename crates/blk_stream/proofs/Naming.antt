@@ -60,7 +60,7 @@ naming_within image entry i size word kind =
     (within_both B (either N nothing) S in_b
     (within_both N nothing S seal (nothing_within S))))
 
--- at each moment of them the record is in the midst of the update, and nothing but its words differs
+-- before and after each of them the record is in the midst of the update, and nothing but its words differs
 pub naming_midst : (files : BlockFiles) (entry i size word : ℕ) (from : Image) → kind_of entry ≡ blocks_256 → stands_among files entry ≡ true → i < 3 → Agrees files from → RecordChecks entry from
     → Along (λ image. IsMidUpdate from entry (place_changes i size word) image × SameOutside (stream_words entry i) from image) from (sealed_steps from entry (place_changes i size word))
 naming_midst files entry i size word from kind st small agrees good =
@@ -83,7 +83,7 @@ naming_moments files entry i size word from kind st small agrees good =
     let word_of : (image : Image) → B image → NamesInProgress entry i from image = λ image h. record { same = h.1; checks = h.0.checks } in
     until_weaker2 B (NamesInProgress entry i from) B (NamesInProgress entry i from) (sealed_steps from entry (place_changes i size word)) from word_of word_of (naming_midst files entry i size word from kind st small agrees good)
 
--- at each moment of the update the view has the record with a checksum that matches or is absent
+-- before and after each write of the update the view has the record with a checksum that matches or is absent
 pub naming_shown : (files : BlockFiles) (entry i size word : ℕ) (from : Image) → kind_of entry ≡ blocks_256 → stands_among files entry ≡ true → i < 3 → Agrees files from → AreBytes from → RecordChecks entry from
     → Along (NamesShown entry i from) from (sealed_steps from entry (place_changes i size word))
 naming_shown files entry i size word from kind st small agrees bytes good =

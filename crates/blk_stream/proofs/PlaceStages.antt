@@ -1,4 +1,4 @@
--- A place is taken, filled and freed: what is on its way at each word, and what is done in the end.
+-- A place is allocated, filled and freed: what is under way at each word, and what is done in the end.
 use Rattle.std.proofs.Common.{◌≡◌, ◌≢◌, inl, inr, ℕ, ◌<◌, Some, Result, Ok, Err, sym, ◌∙◌, subst, true}
 use Rattle.std.specs.Prelude.{IfOk, IsTrue, OnOk}
 use Rattle.std.specs.Option.{ForSome}

@@ -20,8 +20,8 @@ use blk_record::{EntryView, Record};
 /// checksum 0, and then its blocks are freed, or its file is deleted.
 ///
 /// One folder call reads the record; for each stream in blocks eleven follow, and for each in a file five. A failed check is a read of the record that gave too
-/// few bytes, or a wrong checksum of the record, and nothing is written then; or the words of a stream that don't give it its storage, or a header that blocks
-/// can't be freed of.
+/// few bytes, or a wrong checksum of the record, and nothing is written then; or the words of a stream that don't give it its storage, or the header of a
+/// block file of which the blocks can't be freed.
 pub fn drop_streams<F: Folder>(f: &mut F, files: &BlockFiles, entry: Addr) -> Result<(), Fault>
     requires kind { kind_of entry ≡ blocks_256 }
     requires stands { IsTrue (stands_among files.now entry) }

@@ -21,7 +21,7 @@ use blk_disk::BlockFiles;
 use blk_io::{Fault, Folder};
 
 /// Stores the bytes of a new stream, which no record names yet: zeros, and then the given ones from an offset on. A place
-/// is taken for them and filled.
+/// is allocated for them and filled.
 ///
 /// A failed check is a cause of `allocate` or `create`.
 pub fn store_new<F: Folder>(
@@ -39,7 +39,7 @@ pub fn store_new<F: Folder>(
     // Where there is space for them they are stored there.
     ensures stored { IfOk result (λ addr. ForSome (F.told folder.old).files (λ from. CanBePlaced files.old (offset + length bytes.now) from → ForSome (F.told folder.new).files (λ image. (store_of image).stored (offset + length bytes.now) addr ≡ Some (overwritten [] offset bytes.now)))) }
 
-    // A place was taken and then filled; at each word it is being taken or filled.
+    // A place was allocated and then filled; at each word it is being allocated or filled.
     ensures staged { IfOk result (λ addr. ForSome (F.told folder.old).files (λ from. CanBePlaced files.old (offset + length bytes.now) from → ForSome (F.told folder.new).files (IsFilled files.old files.new (Some addr) from))) }
     ensures stages { ForSome (F.told folder.old).files (λ from. CanBePlaced files.old (offset + length bytes.now) from → Passes (F.told folder.old) (F.told folder.new) (FillsByStage files.old files.new from)) }
 

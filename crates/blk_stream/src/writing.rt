@@ -59,7 +59,7 @@ pub fn write<F: Folder>(
     // before.
     ensures written { OnOk result (ForSome (F.told f.old).files (λ from. CanBeWritten files.old entry stream (writes.size_after cut (size_word from entry stream) offset (length bytes.now)) from → ForSome (F.told f.new).files (StreamIsWritten files.old files.new entry stream offset cut bytes.now from))) }
 
-    // The stream was written where it lies; or a new place was taken and filled, then the record named it, and then the old one was freed.
+    // The stream was written where it lies; or a new place was allocated and filled, then the record named it, and then the old one was freed.
     ensures staged { OnOk result (ForSome (F.told f.old).files (λ from. CanBeWritten files.old entry stream (writes.size_after cut (size_word from entry stream) offset (length bytes.now)) from → ForSome (F.told f.new).files (IsWrittenByStage files.old files.new entry stream (writes.size_after cut (size_word from entry stream) offset (length bytes.now)) offset bytes.now from))) }
 
     ensures sealed { OnOk result (ForSome (F.told f.old).files (λ from. CanBeWritten files.old entry stream (writes.size_after cut (size_word from entry stream) offset (length bytes.now)) from → ForSome (F.told f.new).files (KeepsSeal entry from))) }
@@ -70,7 +70,7 @@ pub fn write<F: Folder>(
     // was until the record names the new one, which then has the bytes.
     ensures stops { ForSome (F.told f.old).files (λ from. CanBeWritten files.old entry stream (writes.size_after cut (size_word from entry stream) offset (length bytes.now)) from → Passes (F.told f.old) (F.told f.new) (WritesStream files.old entry stream (writes.size_after cut (size_word from entry stream) offset (length bytes.now)) offset cut bytes.now from)) }
 
-    // At each word one of these stages is on its way: what was done before it is done, and of what comes after it nothing is.
+    // At each word one of these stages is under way: what was done before it is done, and of what comes after it nothing is.
     ensures stages { ForSome (F.told f.old).files (λ from. CanBeWritten files.old entry stream (writes.size_after cut (size_word from entry stream) offset (length bytes.now)) from → Passes (F.told f.old) (F.told f.new) (WritesByStage files.old files.new entry stream (writes.size_after cut (size_word from entry stream) offset (length bytes.now)) offset bytes.now from)) }
 
     ensures damaged { IfDamaged result (IsWriteDamage files.old files.new (F.told f.old) (F.told f.new) entry stream) }

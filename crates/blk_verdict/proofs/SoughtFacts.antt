@@ -42,7 +42,7 @@ part_said key (entries.IsPart name index) Plain is = absurd is
 part_said key (entries.IsPart name index) (Parent head) is = absurd is
 part_said key (entries.IsPart name index) (Part said) is = refl
 
--- the signature of a parent
+-- the generation of a parent
 signature_is : (head : ParentHead) (index : ParentIndex) → head_fields head ≡ (index.signature, index.key_len) → head_signature head ≡ index.signature
 signature_is head index e = ap (λ (p : ℕ × ℕ). p.0) e
 

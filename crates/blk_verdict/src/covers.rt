@@ -9,7 +9,7 @@ ghost use Rattle.blk_ranges.specs.PartMaps.{index_of, map_signature, partial_of}
 
 use blk_ranges::{ChildName, PartMap};
 
-// Whether a map has the signature and the length of the key that a name says.
+// Whether a map has the generation and the length of the key that a name says.
 pub(crate) fn is_named(map: &PartMap, name: &ChildName) -> bool
     ensures { result ≡ ((map_signature map.now == cast_unsigned w64 name.now.signature) && (map.now.key_len == name.now.key_len)) }
 {

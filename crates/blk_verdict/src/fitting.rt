@@ -66,7 +66,7 @@ fn is_part(role: Role) -> bool
     }
 }
 
-// Whether a role is that of a parent with a signature.
+// Whether a role is that of a parent with a generation.
 fn is_parent(role: Role, signature: i64) -> bool
     ensures { result ≡ is_parent_said (cast_unsigned w64 signature) role }
 {

@@ -31,7 +31,7 @@ pub enum Reason {
     Sparse = 12,
     /// A kept entry owns one of the record's blocks or external files, or two of its record, long key and streams share one.
     Claimed = 13,
-    /// A kept record has the same key.
+    /// A kept record has the same key, and both are parts or neither is.
     Name = 14,
     /// A part has no kept parent with its bit.
     Parent = 15,

@@ -60,7 +60,7 @@ fn is_external(addr: Addr) -> bool
     addr.kind() == Kind::External
 }
 
-// Whether an external file has a length above 0.
+// Whether an external file has this length, which is above 0.
 fn has_length<F: Folder>(folder: &mut F, addr: Addr, size: u32) -> Result<bool, Failed>
     requires kind { kind_of addr ≡ external }
     requires some { 0 < size }

@@ -1,4 +1,4 @@
--- The slots of a store of pages.
+-- The slots of `Pages`.
 use Rattle.std.proofs.Common.{◌≡◌, ℕ, ◌<◌, ◌≤◌, Bool, false, List, length, Some, nat_eq, slice_get, option_and_then, vec_len, sym, ◌∙◌, subst, arith}
 use Rattle.std.specs.Map.{lookup}
 use Rattle.spec_image.specs.Image.{File}

@@ -145,7 +145,7 @@ impl Pages {
         slot
     }
 
-    /// Changes the page, which is not held yet, with a slot that is free. What the slot holds is the page that was used last then.
+    /// Swaps the page, which is not held yet, into a slot that is free. It is the page that was used last then.
     pub fn put(&mut self, slot: u16, page: &mut Page)
         requires free { IsSlotFree self.old slot }
         requires new { ForSome (seen page.old) (λ new. is_held new.file new.number (held_of self.old) ≡ false) }

@@ -12,7 +12,7 @@ use Rattle.spec_folder.specs.ShownChanges.{ChangesInside, OnlyListChanges}
 abbrev pub WritesStayInside : Type 0
 WritesStayInside = (from image : Image) (w at n : ℕ) → stands_in from w ≡ true → kind_of w ≢ external → place w ≤ at → at + n ≤ place w + byte_size w → SameOutside (range (Block (file_selector w)) at n) from image → ChangesInside w from image
 
--- each moment of the update of the record at the start of a valid address's blocks changes only these blocks
+-- an update of the record at the start of a valid address's blocks changes only these blocks, before and after each of its writes
 abbrev pub UpdatesStayInside : Type 0
 UpdatesStayInside = (from image : Image) (w : ℕ) (changes : List (ℕ × ℕ)) → stands_in from w ≡ true → BeginsWithRecord w → IsMidUpdate from w changes image → ChangesInside w from image
 

@@ -159,7 +159,7 @@ WrittenDoomedDirtyWordsSettle = (old new : View) (state : State) (layout : Layou
 abbrev pub RepresentedHoldExcept : Type 0
 RepresentedHoldExcept = (except : ℕ → Bool) (view : View) (state : State) (layout : Layout) → Represents view state layout → HoldsExcept except view.store state layout
 
--- a store that has a state but for some nodes has it but for more nodes
+-- a store view that has a state but for some nodes has it but for more nodes
 abbrev pub MoreMayBeLeftOut : Type 0
 MoreMayBeLeftOut = (except more : ℕ → Bool) (store : StoreView) (state : State) (layout : Layout) → HoldsExcept except store state layout → ((node : ℕ) → except node ≡ true → more node ≡ true) → HoldsExcept more store state layout
 
@@ -252,7 +252,7 @@ HandlesAreNotShown = (view : View) (state : State) (layout : Layout) → Represe
 abbrev pub touched_view : View → ℕ → ℕ → View
 touched_view view node count = record view { list = after_writes (take count (touch_writes node view.list)) view.list }
 
--- at each write of the access in an Open, in a store that shows the same, what is kept is a crash outcome of the Open
+-- at each write of the access in an Open, in a store view that shows the same, what is kept is a crash outcome of the Open
 abbrev pub OpensAtEachWrite : Type 0
 OpensAtEachWrite = (view : View) (state : State) (layout : Layout) → Represents view state layout → IsValidState state → (moment handle : ℕ) (key : List ℕ) → refused moment (to_open handle key) state ≡ None
     → (store : StoreView) → ShowsTheSame view.store store
@@ -279,7 +279,7 @@ pub record IsWrittenApart (old new : View) (state : State) (layout : Layout) (ke
   pub few : length (order state layout) < most_nodes
   pub missing : owner state (main key) ≡ None
 
--- a new object's record and node are written apart in each store that shows the same
+-- a new object's record and node are written apart in each store view that shows the same
 abbrev pub WrittenEntriesStay : Type 0
 WrittenEntriesStay = (old new : View) (state : State) (layout : Layout) (key : List ℕ) (loaded : Loaded) → IsWrittenApart old new state layout key loaded
     → (store : StoreView) → ShowsTheSame new.store store → IsWrittenApart old (record new { store = store }) state layout key loaded
@@ -301,7 +301,7 @@ CreatesEnd = (old new : View) (state : State) (layout : Layout) (key : List ℕ)
     → (store linked : StoreView) → ShowsTheSame new.store store → ShowsTheSame (linked_front store loaded) linked
     → Represents (record { list = after_writes (writes_of insert loaded.node new.list) new.list; store = linked }) (created handle key state) (with_new layout key loaded)
 
--- once a new object's record is in front of its chain, what is kept is the old durable contents, in each store that shows the same
+-- once a new object's record is in front of its chain, what is kept is the old durable contents, in each store view that shows the same
 abbrev pub CreatesAfterTheLink : Type 0
 CreatesAfterTheLink = (old new : View) (state : State) (layout : Layout) (key : List ℕ) (loaded : Loaded) → IsWrittenApart old new state layout key loaded → (handle : ℕ) → IsValidState (created handle key state)
     → (store linked : StoreView) → ShowsTheSame new.store store → ShowsTheSame (linked_front store loaded) linked

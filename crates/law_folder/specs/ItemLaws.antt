@@ -1,4 +1,4 @@
--- The laws of items that are accessed and of items that are new, whatever store shows the same.
+-- The laws of items that are accessed and of items that are new, whatever store view shows the same.
 use Rattle.std.specs.Prelude.{◌≡◌, ℕ, List, map, take, true, nat_lt, if◌then◌else◌}
 use Rattle.std.specs.declared.option.Option.{Option}
 use Rattle.blk_model.specs.Items.{Item}
@@ -15,7 +15,7 @@ use Rattle.spec_folder.specs.Layout.{Layout, is_listed, IsLayoutOf, Represents, 
 use Rattle.spec_folder.specs.Creation.{with_first, with_item, IsNewItem}
 use Rattle.spec_folder.specs.ShownChanges.{ShowsTheSame}
 
--- a view represents the same with a store that shows the same
+-- a view represents the same with a store view that shows the same
 abbrev pub SameStoresRepresent : Type 0
 SameStoresRepresent = (view : View) (state : State) (layout : Layout) → Represents view state layout → (store : StoreView) → ShowsTheSame view.store store → Represents (record view { store = store }) state layout
 

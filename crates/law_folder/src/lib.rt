@@ -236,7 +236,7 @@ pub fn turning_objects_are_picked()
 {}
 
 /// The access of a listed item commits at its second write: recovery keeps the durable contents before it, and from then on those with the item in front. In
-/// the end the view represents the state with the item in front, which is valid. A view represents the same with any store that shows the same.
+/// the end the view represents the state with the item in front, which is valid. A view represents the same with any store view that shows the same.
 pub fn items_are_used()
     ensures stores { SameStoresRepresent }
     ensures at_each_word { TouchedItemsAtEachWrite }
@@ -258,16 +258,16 @@ pub fn chains_are_searched()
     ensures missing { NoneFoundIsMissing }
 {}
 
-/// At each write of the access in an Open, recovery keeps a crash outcome of the Open, in each store that shows the same; in the end the view represents the
-/// state after the Open.
+/// At each write of the access in an Open, recovery keeps a crash outcome of the Open, in each store view that shows the same; in the end the view represents
+/// the state after the Open.
 pub fn opens_at_each_write()
     ensures at_each_word { OpensAtEachWrite }
     ensures ends { OpensEnd }
 {}
 
-/// While the record and the node of a new object are written, inserted and linked, recovery keeps the old durable contents, in each store that shows the same;
-/// in the end the view represents the state with the new object. That is the state after a Create that evicts nothing, of which the old durable contents are a
-/// crash outcome.
+/// While the record and the node of a new object are written, inserted and linked, recovery keeps the old durable contents, in each store view that shows the
+/// same; in the end the view represents the state with the new object. That is the state after a Create that evicts nothing, of which the old durable contents
+/// are a crash outcome.
 pub fn creates_at_each_write()
     ensures written { WrittenEntriesStay }
     ensures before { CreatesBeforeTheInsert }

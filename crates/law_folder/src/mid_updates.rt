@@ -6,7 +6,7 @@ ghost use Rattle.law_folder.specs.IndexWrites.{HeadsAreWritten, TailsAreWritten,
 ghost use Rattle.law_folder.specs.NodeUpdates.{NextsAreWritten, PrevsAreWritten, TimesAreNotShown, ContentsAreWritten, DirtyWordsAreWritten};
 ghost use Rattle.law_folder.specs.RecordUpdates.{ChainNextsAreWritten, FieldsAreWritten};
 
-/// A write into the blocks of a valid address, and each moment of an update of the record at their start, changes only these blocks in what is shown.
+/// A write into the blocks of a valid address, and each write of an update of the record at their start, changes only these blocks in what is shown.
 pub fn blocks_change_inside()
     ensures writes { WritesStayInside }
     ensures updates { UpdatesStayInside }

@@ -614,7 +614,7 @@ none-to_link image bucket words is =
     let none : bucket_steps bucket (first_or 0 words) image ≡ [] = unless-right ((store_of image).table bucket) (first_or 0 words) (word_step Index (place_of_bucket bucket) (first_or 0 words)) right.0 in
     rw none right.1
 
--- ---- where nothing of the store is shown to change
+-- ---- where nothing that the store view shows changes
 
 pub records-stay : KeptRecordsStay
 unfolding kept_records

@@ -281,7 +281,7 @@ chain_next-small image w bytes = go (stands_as image blocks_256 w) where
   go true = word-fits (byte image (Block (file_selector w))) (bytes (Block (file_selector w))) (place w + 4)
   go false = omega arith
 
--- a moment of an update without changes is one of an update whose change isn't made yet
+-- the midst of an update without changes is that of an update whose change isn't made yet
 sealing-mid : (from image : Image) (w : ℕ) (change : ℕ × ℕ) → IsMidUpdate from w [] image → IsMidUpdate from w (change ∷ []) image
 sealing-mid from image w change mid = record {
   made = 0;

@@ -1,4 +1,4 @@
--- What is held where the store is shown the same.
+-- What is held where the store view is the same.
 use Rattle.std.proofs.Common.{◌≡◌, ℕ, zero, suc, ◌^◌, List, [], ◌∷◌, refl, ap, sym, ◌∙◌, Bool, false, Option, Some, None}
 use Rattle.std.specs.Prelude.{◌&&◌, ◌==◌, is_some, IfSome}
 use Rattle.std.specs.Option.{option_map_or}

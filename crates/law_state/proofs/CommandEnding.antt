@@ -281,7 +281,7 @@ pub trims-left : TrimsMayLeave
 unfolding refusals
 trims-left state moment bytes first others valid groups = evictions-stop state moment (to_trim bytes) first others valid (record { passes = refl; groups = groups })
 
--- ---- groups in turn
+-- ---- eviction units in turn
 
 out-append : (first others : List Group) (item : Item) → is_out (first ++ others) item ≡ (is_out first item || is_out others item)
 out-append first others item = list_any-append (takes item) first others
@@ -305,7 +305,7 @@ not-either false b c e = ap not (sym e)
 abbrev Part : Type 0
 Part = ℕ × PartValue
 
--- an object with the parts that groups don't take
+-- an object with the parts that eviction units don't take
 abbrev with-parts : Object → List Group → List Part → Object
 with-parts object groups parts = record object { parts = filter (λ p. not (is_out groups (part object.key p.0))) parts }
 
@@ -318,7 +318,7 @@ then-cond : (f : Object → Option Object) (c : Bool) (object : Object) → opti
 then-cond f true object = refl
 then-cond f false object = refl
 
--- what the groups leave of an object, one after the other
+-- what the eviction units leave of an object, one after the other
 left-turn : (first others : List Group) (object : Object) → option_and_then (left_of others) (left_of first object) ≡ left_of (first ++ others) object
 unfolding left_of
 left-turn first others object = then-cond (left_of others) (object.live && is_out first (main object.key)) (with-parts object first object.parts)

@@ -98,7 +98,7 @@ module _ (state : State) (layout : Layout) (unlinked key : List ℕ) (l : Loaded
     few = n.few;
   })
 
-  -- the image of a moment of the insert
+  -- the image in the midst of the insert
   pub insert-found : (image : Image) → IsPartly from (writes_of insert l.node (list_of from)) image → Finds (rest state) image
   insert-found image partly =
       let well : HasSoundHeaders image = partly.headers.sound k.sound in (

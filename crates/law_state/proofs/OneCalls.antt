@@ -1,4 +1,4 @@
--- Commands of one call, from the moments of that call.
+-- Commands of one call, by what holds at each word of that call.
 use Rattle.std.proofs.Common.{◌≡◌, ℕ, Option, List, [], ◌∷◌, refl, ap, sym, ◌∙◌, subst, Bool, true, false, cond, None}
 use Rattle.std.specs.Prelude.{◌⊎◌, ◌==◌, unwrap_or, slice_set, length, ◌++◌}
 use Rattle.blk_model.specs.Effects.{new_object, object_of, used_all}

@@ -43,7 +43,7 @@ from-not : (b : Bool) → not b ≡ true → b ≡ false
 from-not true e = cc
 from-not false e = refl
 
--- the durable contents without a group are those of the items that it doesn't take
+-- the durable contents without an eviction unit are those of the items that it doesn't take
 rest-without : (state : State) (group : Group) → rest (without (group ∷ []) state) ≡ filter_map (settled_row state) (not_out (group ∷ []) state.uses)
 unfolding rest without
 rest-without state group = filter_map-on (settled_row (without (group ∷ []) state)) (settled_row state) (λ item. not (is_out (group ∷ []) item)) (λ item stays. settled_left state group [] item (from-not (is_out (group ∷ []) item) stays)) state.uses

@@ -180,7 +180,7 @@ held-dooms-end state moment request layout unlinked from between image number ob
     subst (λ (m : State). KeepsUncounted m (layout_doomed layout number (layout.place (main object.key)) was) unlinked image) (sym (dooms-end state moment request number object passes is can.lies.here))
     (objects-doomed state layout unlinked number object was from between image k can done unchained)
 
--- ---- groups
+-- ---- eviction units
 
 pub plain-groups-go : PlainGroupsGo
 plain-groups-go state first layout unlinked from image number object parts was k here live none unnamed removed =

@@ -1,4 +1,4 @@
--- What goes from the back of a list once the first groups that are evicted are out of it: the others.
+-- What goes from the back of a list once the first eviction units that are evicted are out of it: the others.
 use Rattle.std.proofs.Common.{◌≡◌, ℕ, ◌+◌, ◌≤◌, Bool, true, false, not, ◌||◌, cond, List, [], ◌∷◌, ◌++◌, None, refl, ap, sym, ◌∙◌, subst, arith, ◌⊎◌, inl, inr, ⊎_elim, reverse, append_assoc}
 use Rattle.std.specs.List.{cons_option}
 use Rattle.std.specs.Str.{bytes_eq}
@@ -9,7 +9,7 @@ use Rattle.blk_model.proofs.Same.{one_item, same_item_self, bytes_eq_self, same_
 use Rattle.blk_model.proofs.Evicted.{out_with_main}
 use Rattle.blk_model.proofs.Times.{times-cons}
 
--- the group that is evicted for an item, with what comes before it
+-- the eviction unit that is evicted for an item, with what comes before it
 abbrev own_group : Item → List Item → Group
 own_group (main key) before = whole key (reverse (parts_among key before))
 own_group (part key n) before = single key n
@@ -28,7 +28,7 @@ takes-own : (item : Item) (before : List Item) → takes item (own_group item be
 takes-own (main key) before = bytes_eq_self key
 takes-own (part key n) before = same_item_self (part key n)
 
--- groups that are evicted from a list, of which the first are still in it, and the rest of all are out
+-- eviction units that are evicted from a list, of which the first are still in it, and the rest of all are out
 pub record Going (all first : List Group) (stays still : Item → Bool) (list : List Item) : Type 0 where
   pub same : (item : Item) → is_out all item ≡ false → still item ≡ stays item
   pub gone : (item : Item) → 1 ≤ times item list → is_out all item ≡ true → (is_out first item ≡ true) ⊎ ((stays item ≡ true) × (is_out all (main (key_of item)) ≡ true))
@@ -102,7 +102,7 @@ module _ (all : List Group) (i : Item) (before : List Item) (rest : Left all bef
         ∙ ap (λ (b : Bool). cond b (groups_from_back still (not_out all before)) (own_group i (not_out all before) ∷ groups_from_back (next still i) (not_out all before))) (g.same i out ∙ kept)
         ∙ rest first more stays still smaller e
 
-  -- an item that goes, once all first groups are out
+  -- an item that goes, once all first eviction units are out
   other-left : (more : List Group) (stays still : Item → Bool) → Going all [] stays still (i ∷ before) → stays i ≡ false → own_group i before ∷ groups_from_back (next stays i) before ≡ more → groups_from_back still (not_out all (i ∷ before)) ≡ more
   other-left more stays still g goes e =
       ap (λ (b : Bool). groups_from_back still (cond (not b) (i ∷ not_out all before) (not_out all before))) in-it
@@ -144,7 +144,7 @@ module _ (all : List Group) (i : Item) (before : List Item) (rest : Left all bef
         once = λ j. fewer j i before (g.once j);
       }
 
-  -- an item that goes with the first of the first groups
+  -- an item that goes with the first of the first eviction units
   first-left : (group : Group) (first more : List Group) (stays still : Item → Bool) → Going all (group ∷ first) stays still (i ∷ before) → stays i ≡ false → own_group i before ∷ groups_from_back (next stays i) before ≡ group ∷ first ++ more → groups_from_back still (not_out all (i ∷ before)) ≡ more
   first-left group first more stays still g goes e =
       ap (λ (b : Bool). groups_from_back still (cond (not b) (i ∷ not_out all before) (not_out all before))) (g.among i taken)
@@ -156,7 +156,7 @@ module _ (all : List Group) (i : Item) (before : List Item) (rest : Left all bef
       taken : is_out (group ∷ first) i ≡ true
       taken = or_left (takes i group) (is_out first i) (subst (λ x. takes i x ≡ true) is-group (takes-own i before))
 
-      -- what the group takes of what comes before the item is out by its key
+      -- what the eviction unit takes of what comes before the item is out by its key
       with-group : (k : Item) → own_group k before ≡ group → (j : Item) → takes j group ≡ true → (k ≡ j) ⊎ ((next stays k j ≡ true) × (takes (main (key_of j)) group ≡ true))
       with-group (main key) is j t =
           let same : bytes_eq key (key_of j) ≡ true = subst (λ x. takes j x ≡ true) (sym is) t in
@@ -204,7 +204,7 @@ module _ (all : List Group) (i : Item) (before : List Item) (rest : Left all bef
     go true kept e = stays-left first more stays still g kept (sym (ap (λ (b : Bool). cond b (groups_from_back stays before) (own_group i before ∷ groups_from_back (next stays i) before)) kept) ∙ e)
     go false goes e = goes-left first g goes (sym (ap (λ (b : Bool). cond b (groups_from_back stays before) (own_group i before ∷ groups_from_back (next stays i) before)) goes) ∙ e)
 
--- without the first groups that are evicted, the others go
+-- without the first eviction units that are evicted, the others go
 pub others-left : (all : List Group) (list : List Item) → Left all list
 unfolding groups_from_back
 others-left all [] = λ first more stays still g e. none-more first more e
@@ -230,7 +230,7 @@ after-done enough done gone (group ∷ groups) = go (enough (done ++ gone)) refl
       ∙ further
       ∙ sym (ap (λ (b : Bool). done ++ cond b gone (shortest (λ more. enough (done ++ more)) (gone ++ group ∷ []) groups)) e)
 
--- the groups after the first ones, of which the others are the shortest prefix
+-- the eviction units after the first ones, of which the others are the shortest prefix
 pub record RestOf (enough : List Group → Bool) (groups first others : List Group) : Type 0 where
   pub behind : List Group
   pub are : groups ≡ first ++ behind

@@ -1,4 +1,4 @@
--- What a command adds is the same on the state without the first groups.
+-- What a command adds is the same on the state without the first eviction units.
 use Rattle.std.proofs.Common.{◌≡◌, ℕ, suc, ◌+◌, ◌-◌, ◌*◌, Bool, true, false, not, cond, List, [], ◌∷◌, ◌++◌, Some, None, Option, refl, ap, sym, ◌∙◌, arith, get_or, set, length}
 use Rattle.std.specs.List.{filter, sum_by, AllByRecursion}
 use Rattle.std.specs.Option.{unwrap_or}

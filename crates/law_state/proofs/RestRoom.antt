@@ -1,4 +1,4 @@
--- Space on the state without the first groups: what is pinned is the same, and what goes until there is enough are the others.
+-- Space on the state without the first eviction units: what is pinned is the same, and what goes until there is enough are the others.
 use Rattle.std.proofs.Common.{◌≡◌, ℕ, suc, ◌+◌, ◌-◌, ◌/◌, ◌≤◌, Bool, true, false, not, ◌&&◌, ◌||◌, cond, List, [], ◌∷◌, ◌++◌, Some, None, Option, refl, ap, ap₂, sym, ◌∙◌, subst, arith, get_or, map, reverse, append-nil, ◌⊎◌, inl, inr}
 use Rattle.std.specs.List.{filter, list_any, AllByRecursion}
 use Rattle.std.specs.Option.{option_and_then, option_map_or}
@@ -84,7 +84,7 @@ module _ (state : State) (valid : IsValidState state) (covers : List Item) (grou
   pinned-item (main key) stays = ap (λ (o : Option ℕ). option_map_or (is_named state) o false) (first-same (group ∷ groups) (main key) 0 state.objects stays)
   pinned-item (part key n) stays = refl
 
-  -- what could go after the first groups
+  -- what could go after the first eviction units
   groups-behind : (behind : List Group) → groups_from_back (is_pinned state covers) (reverse state.uses) ≡ (group ∷ groups) ++ behind → groups_from_back (is_pinned (without (group ∷ groups) state) covers) (reverse (without (group ∷ groups) state).uses) ≡ behind
   unfolding without
   groups-behind behind e =

@@ -79,14 +79,14 @@ turn-sum a b = omega arith
 same-rise : (a b c d : ℕ) → a + d ≡ c + b → a - b ≡ c - d
 same-rise a b c d e = omega (arith, e)
 
--- what a request asks for is the same on the state without the groups
+-- what a request asks for is the same on the state without the eviction units
 record Alike (state : State) (moment : ℕ) (request : Request) (groups : List Group) : Type 0 where
   covers : covered request (without groups state) ≡ covered request state
   bytes : total (effect moment request (without groups state)) - total (without groups state) ≡ total (effect moment request state) - total state
   count : items (effect moment request (without groups state)) - items (without groups state) ≡ items (effect moment request state) - items state
   stay : (key : List ℕ) (n : ℕ) → list_any (same_item (part key n)) (covered request state) ≡ true → is_out groups (part key n) ≡ false
 
--- the object of a handle, before the groups are out and after
+-- the object of a handle, before the eviction units are out and after
 record Handled (state : State) (handle : ℕ) (groups : List Group) : Type 0 where
   here : object_at state (number_of state handle) ≡ Some (object_of state handle)
   here-left : object_at (without groups state) (number_of (without groups state) handle) ≡ Some (object_of (without groups state) handle)

@@ -45,7 +45,7 @@ stages-stop keeps told now later moment request words stage passes image there s
 pub calls-follow : (keeps : State → Image → Type 0) → CallsFollow keeps
 calls-follow keeps told now later last moment request first second image there state k = passes_then (first image there state k) (second image there state k)
 
--- a request that came to an observable folder goes on by a call whose clause is of the folder's files, if it may crash at each moment of that call
+-- a request that came to an observable folder goes on by a call whose clause is of the folder's files, if it may crash before and after each step of that call
 pub call-then : (keeps : State → Image → Type 0) (told now later : Told) (moment : ℕ) (request : Request) (P : Image → Image → Type 0) → MayStopBetween keeps told told now moment request → ForSome now.files (λ from. Passes now later (P from))
     → ForKept keeps told (λ state. ForSome now.files (λ from. (image : Image) → P from image → MayStop state moment request image)) → MayStopBetween keeps told told later moment request
 call-then keeps told now later moment request P first call stops image there state k =

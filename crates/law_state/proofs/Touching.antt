@@ -22,7 +22,7 @@ pub held-kept : (image : Image) → held image ≡ map row_of_loaded (kept_by he
 unfolding kept
 held-kept image = refl
 
--- at a moment of an access the image shows its writes so far
+-- in the midst of an access the image shows its writes so far
 shows : (from image : Image) (node : ℕ) (touched : IsTouched from node (touch_writes node (list_of from)) image) → ◌≡◌ {A = View} (view_of image) (record { list = after_writes (take touched.made (touch_writes node (list_of from))) (list_of from); store = store_of image })
 shows from image node touched = λ i. let v : View = record { list = touched.shown.list i; store = store_of image } in v
 

@@ -123,7 +123,7 @@ pub dooms-stop : DoomsMayStop
 dooms-stop state moment request number object before image valid can passes is here finds =
     chosen-stops state moment request (rest state) (rest (doomed number state (Some object))) image before (rest_before state moment request valid) (dooms-left state moment request number object valid can passes is here) finds
 
--- ---- groups
+-- ---- eviction units
 
 pub groups-stop : GroupsMayStop
 groups-stop state moment request first others group before image valid evicts finds =

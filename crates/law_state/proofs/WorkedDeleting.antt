@@ -56,7 +56,7 @@ b-goes = goes-out worked worked_layout (λ item. true) chain_of (first_file ∷ 
 b_is_out : KeepsPartlyOut worked worked_layout but_b chains_left (words_of the_plain ++ first_file ∷ []) without_b
 b_is_out = one-more-goes worked worked_layout (λ item. true) chain_of (first_file ∷ []) (main (codes "b")) the_plain made_folder without_b all_there refl refl b-goes
 
--- the word of the file may are in front
+-- the word of the file may be in front
 file_in_front : KeepsPartlyOut worked worked_layout but_b chains_left (first_file ∷ words_of the_plain) without_b
 file_in_front = out-in-any-order worked worked_layout but_b chains_left (words_of the_plain ++ first_file ∷ []) (first_file ∷ words_of the_plain) without_b b_is_out (IsPermutation-append_comm (words_of the_plain) (first_file ∷ []))
 

@@ -86,7 +86,7 @@ main-goes = goes-out left left_layout (λ item. true) left_chains (words_of the_
 main_is_out : KeepsPartlyOut left left_layout but_main (chains_but left_chains (records 0)) (words_of the_parent ++ words_of the_plain ++ []) without_main
 main_is_out = one-more-goes left left_layout (λ item. true) left_chains (words_of the_plain ++ []) (main (codes "a")) the_parent without_b without_main all_left refl refl main-goes
 
--- so the Trim may crash there, before its second group is out
+-- so the Trim may crash there, before its second eviction unit is out
 trim_stops : MayStop worked 100 (to_trim 0) without_main
 trim_stops = partly-out-groups-stop worked 100 (to_trim 0) first [] left_layout 1 sparse_object (0 ∷ []) but_main (chains_but left_chains (records 0)) (words_of the_parent ++ words_of the_plain ++ []) without_main worked-keeps.entries.valid evicts_both
     (unfold computing in refl) refl (unfold computing in refl) (own-items-leave (codes "a")).0 (subst (λ (m : State). KeepsPartlyOut m left_layout but_main (chains_but left_chains (records 0)) (words_of the_parent ++ words_of the_plain ++ []) without_main) (sym left-is) main_is_out)

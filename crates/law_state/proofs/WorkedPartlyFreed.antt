@@ -31,7 +31,7 @@ use Rattle.law_state.proofs.WorkedState.{chain_of, nodes, records, sparse_object
 abbrev chains_left : ℕ → List ℕ
 chains_left = chains_but chain_of (records 0)
 
--- the word of the index may are in front
+-- the word of the index may be in front
 index_in_front : KeepsPartlyOut worked worked_layout but_main chains_left (index_word ∷ nodes 0 ∷ records 0 ∷ []) without_main
 index_in_front = out-in-any-order worked worked_layout but_main chains_left (words_of the_parent ++ []) (index_word ∷ nodes 0 ∷ records 0 ∷ []) without_main main_is_out (IsPermutation-middle (nodes 0 ∷ records 0 ∷ []) index_word [])
 

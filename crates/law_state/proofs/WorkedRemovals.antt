@@ -180,7 +180,7 @@ b_is_gone = doomed-removed worked worked_layout [] worked_folder without_b 0 pla
 b_is_doomed : KeepsUncounted (step worked 100 (to_doom_key (codes "b"))).state (layout_removed worked_layout (nodes 2) (records 2)) (words_of the_plain ++ []) without_b
 b_is_doomed = unheld-dooms-end worked 100 (to_doom_key (codes "b")) worked_layout [] worked_folder without_b 0 plain_object the_plain worked-keeps.entries (unfold computing in refl) (unfold computing in refl) refl refl refl refl removed_b
 
--- and the group of it is gone
+-- and the eviction unit of it is gone
 none-gone : worked ≡ without [] worked
 unfolding computing
 none-gone = refl

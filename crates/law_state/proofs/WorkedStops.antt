@@ -69,7 +69,7 @@ read_stops = reads-stop opened worked_layout [] opened_folder read_folder 100 6 
 read_ends : Keeps (step opened 100 (to_read 6 0 0 2)).state worked_layout [] read_folder
 read_ends = reads-end-by-touch opened worked_layout [] opened_folder read_folder 100 6 0 0 2 0 plain_object opened-keeps (unfold computing in refl) read_names refl read_touches
 
--- it has its effect, with the map's answer
+-- it has its effect, with the model's answer
 read-effect : effect 100 (to_read 6 0 0 2) (with_room opened 100 (to_read 6 0 0 2)) ≡ (step opened 100 (to_read 6 0 0 2)).state
 unfolding computing
 read-effect = refl

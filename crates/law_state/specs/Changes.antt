@@ -36,7 +36,7 @@ abbrev pub HeldIsFoundAlong : Type 0
 HeldIsFoundAlong = (rows : List Row) (image : Image) (steps : List TrailStep) → IsQuiet steps → magic_of (byte image Index) ≡ index_magic
     → Along (Finds rows) image steps → Along (FindsFinished rows) image steps
 
--- at a moment of a call: whatever state was kept with these words unlinked, its durable contents are held
+-- before or after a step of a call: whatever state was kept with these words unlinked, its durable contents are held
 abbrev pub StillFinds : List ℕ → Image → Image → Type 0
 StillFinds words from image = (state : State) (layout : Layout) (unlinked : List ℕ) → KeepsUncounted state layout (words ++ unlinked) from → Finds (rest state) image
 

@@ -19,11 +19,11 @@ abbrev pub PassedRequestsTakeEffect : Type 0
 PassedRequestsTakeEffect = (state : State) (moment : ℕ) (request : Request) → refused moment request state ≡ None
     → ((step state moment request).state ≡ effect moment request (with_room state moment request)) × ((step state moment request).reply ≡ reply request (evicted moment request state) state)
 
--- the state without some groups, and then without others, is the state without all of them
+-- the state without some eviction units, and then without others, is the state without all of them
 abbrev pub GroupsGoInTurn : Type 0
 GroupsGoInTurn = (state : State) (first others : List Group) → without others (without first state) ≡ without (first ++ others) state
 
--- the state without the group of an object that has no handle is the one in which the object is doomed
+-- the state without the eviction unit of an object that has no handle is the one in which the object is doomed
 abbrev pub WholeGroupsGoAsDoomed : Type 0
 WholeGroupsGoAsDoomed = (state : State) (number : ℕ) (object : Object) (parts : List ℕ) → IsValidState state → object_at state number ≡ Some object → object.live ≡ true → is_named state number ≡ false → without (whole object.key parts ∷ []) state ≡ doomed number state (Some object)
 
@@ -174,6 +174,6 @@ DoomsMayLeave = (state : State) (moment : ℕ) (request : Request) (number : ℕ
 abbrev pub TrimsEndOnceOut : Type 0
 TrimsEndOnceOut = (state : State) (moment bytes : ℕ) → (step state moment (to_trim bytes)).state ≡ with_room state moment (to_trim bytes)
 
--- the durable contents without the first groups are a crash outcome of a Trim
+-- the durable contents without the first eviction units are a crash outcome of a Trim
 abbrev pub TrimsMayLeave : Type 0
 TrimsMayLeave = (state : State) (moment bytes : ℕ) (first others : List Group) → IsValidState state → evicted moment (to_trim bytes) state ≡ first ++ others → MayLeave state moment (to_trim bytes) (rest (without first state))

@@ -29,7 +29,7 @@ RequestsMayStopBefore = (state : State) (moment : ℕ) (request : Request) (imag
 abbrev pub RequestsMayStopAfter : Type 0
 RequestsMayStopAfter = (state : State) (moment : ℕ) (request : Request) (image : Image) → IsValidState state → IsRequest request → Finds (rest (step state moment request).state) image → MayStop state moment request image
 
--- a request may crash once its first groups are evicted, where the durable contents without them are held
+-- a request may crash once its first eviction units are evicted, where the durable contents without them are held
 abbrev pub RequestsMayStopOnceEvicted : Type 0
 RequestsMayStopOnceEvicted = (state : State) (moment : ℕ) (request : Request) (first others : List Group) (image : Image) → IsValidState state → EvictsFirst state moment request first others → Finds (rest (without first state)) image → MayStop state moment request image
 

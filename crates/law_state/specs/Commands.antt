@@ -1,4 +1,4 @@
--- What a command owes to a folder that keeps a state, for every request; the cache's own condition, on a state and an image, is a parameter.
+-- What a command has to meet on a folder that keeps a state, for every request; the cache's own condition, on a state and an image, is a parameter.
 use Rattle.std.specs.Prelude.{◌≡◌, ◌⊎◌, ℕ, ◌-◌, ◌^◌, List, [], ◌∷◌, ◌++◌, min}
 use Rattle.std.specs.Option.{ForSome}
 use Rattle.spec_image.specs.Image.{Index, Image, byte}

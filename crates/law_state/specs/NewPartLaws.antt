@@ -55,8 +55,8 @@ pub record IsPartWritten (view : View) (state : State) (objects : List (Option O
 abbrev pub is_part_or_parent : Layout → List ℕ → Loaded → ℕ → Bool
 is_part_or_parent layout key loaded node = (loaded.node == node) || (layout.place (main key) == node)
 
--- a store in the midst of making a part: all nodes but the part's and its parent's load as before, the part's loads, the parent's is dirty, and the chains are
--- these
+-- a store view in the midst of making a part: all nodes but the part's and its parent's load as before, the part's loads, the parent's is dirty, and the chains
+-- are these
 pub record IsMidPart (store : StoreView) (layout : Layout) (key : List ℕ) (loaded : Loaded) (chains : ℕ → List ℕ) : Type 0 where
   pub no_record : store.entry 0 ≡ None
   pub others : (node : ℕ) (other : Loaded) → layout.at node ≡ Some other → is_part_or_parent layout key loaded node ≡ false → load store (rule_of layout node) node ≡ Ok other
@@ -65,7 +65,7 @@ pub record IsMidPart (store : StoreView) (layout : Layout) (key : List ℕ) (loa
   pub whole : (bucket : ℕ) → bucket < table_length → IsChain store bucket (chains bucket)
   pub chained : (bucket contents : ℕ) → is_among (layout.chains bucket) contents ≡ true → is_among (chains bucket) contents ≡ true
 
--- in the midst of making a part, the store has the state with the part but for the part's node and its parent's
+-- in the midst of making a part, the store view has the state with the part but for the part's node and its parent's
 abbrev pub NewPartsHoldTheOthers : Type 0
 NewPartsHoldTheOthers = (view : View) (state : State) (objects : List (Option Object)) (layout : Layout) (key : List ℕ) (n : ℕ) (was seen loaded : Loaded) → IsPartWritten view state objects layout key n was seen loaded
     → (store : StoreView) (chains : ℕ → List ℕ) → IsMidPart store layout key loaded chains
@@ -78,7 +78,7 @@ NewPartsAreAtRest = (view : View) (state : State) (objects : List (Option Object
     → map row_of_loaded (kept_among store held_rule (order (with_first state objects (part key n)) (with_new_part layout key n seen loaded))) ≡ rest (with_first state objects (part key n))
 
 -- the insert of a new part's node commits at its second write: what is kept is the durable contents before, and from then on those with the part, whatever
--- store shows the same
+-- store view shows the same
 abbrev pub NewPartsAtEachWrite : Type 0
 NewPartsAtEachWrite = (view : View) (state : State) (objects : List (Option Object)) (layout : Layout) (key : List ℕ) (n : ℕ) (was seen loaded : Loaded) → IsPartWritten view state objects layout key n was seen loaded
     → (store : StoreView) → ShowsTheSame view.store store → (count : ℕ) → map row_of_loaded (kept_by held_rule (completed (record { list = after_writes (take count (writes_of insert loaded.node view.list)) view.list; store = store })))
@@ -90,7 +90,7 @@ NewPartsEnd = (view : View) (state : State) (objects : List (Option Object)) (la
     → (store : StoreView) → IsMidPart store layout key loaded (with_new_part layout key n seen loaded).chains → load store (rule_of layout (layout.place (main key))) (layout.place (main key)) ≡ Ok seen
     → Represents (record { list = after_writes (writes_of insert loaded.node view.list) view.list; store = store }) (with_first state objects (part key n)) (with_new_part layout key n seen loaded)
 
--- The moments between.
+-- While a part is added.
 
 -- once a new part's record is linked, all other nodes still load as before
 abbrev pub NewPartsAreLinked : Type 0

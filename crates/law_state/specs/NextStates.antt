@@ -68,6 +68,6 @@ FlushesKeepNext = (state : State) (moment handle number : ℕ) (object : Object)
 abbrev pub DoomsKeepNext : Type 0
 DoomsKeepNext = (state : State) (moment : ℕ) (request : Request) (number : ℕ) (object : Object) → refused moment request state ≡ None → IsDoomOf request state number → object_at state number ≡ Some object → KeepsNext (doomed number state (Some object)) state moment request
 
--- the state after a Trim is kept where the state without its groups is
+-- the state after a Trim is kept where the state without its eviction units is
 abbrev pub TrimsKeepNext : Type 0
 TrimsKeepNext = (state : State) (moment bytes : ℕ) → KeepsNext (with_room state moment (to_trim bytes)) state moment (to_trim bytes)

@@ -1,4 +1,4 @@
--- Commands of one call, from the moments of that call: Open, Read, Close and Flush; and the call by which a request makes its object dirty.
+-- Commands of one call, by what holds at each word of that call: Open, Read, Close and Flush; and the call by which a request makes its object dirty.
 use Rattle.std.specs.Prelude.{◌≡◌, ◌++◌, ◌==◌, ℕ, List, None, Some, false, true}
 use Rattle.spec_image.specs.Image.{Image}
 use Rattle.blk_model.specs.Effects.{with_name}

@@ -125,7 +125,7 @@ UnheldOutDoomsEnd = (state : State) (moment : ℕ) (request : Request) (layout :
     → object_at state number ≡ Some object → object.live ≡ true → is_named state number ≡ false → KeepsPartlyOut state layout (is_of_another object.key) chains unlinked image
     → KeepsUncounted (step state moment request).state (layout_less layout (gone_nodes state layout (is_of_another object.key)) chains) unlinked image
 
--- the state without one group more is kept but for the counters once all items of the group's object, which has no handle, are out, freed or not
+-- the state without one eviction unit more is kept but for the counters once all items of the unit's object, which has no handle, are out, freed or not
 abbrev pub OutGroupsAreGone : Type 0
 OutGroupsAreGone =
     (state : State) (first : List Group) (layout : Layout) (unlinked : List ℕ) (chains : ℕ → List ℕ) (image : Image) (number : ℕ) (object : Object) (parts : List ℕ)

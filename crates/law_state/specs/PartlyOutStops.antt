@@ -69,7 +69,7 @@ abbrev pub PartlyOutDoomsMayStop : Type 0
 PartlyOutDoomsMayStop = (state : State) (moment : ℕ) (request : Request) (layout : Layout) (number : ℕ) (object : Object) (keep : Item → Bool) (chains : ℕ → List ℕ) (unlinked : List ℕ) (image : Image) → IsRequest request → refused moment request state ≡ None → IsDoomOf request state number
     → object_at state number ≡ Some object → LeavesOtherKeys object.key keep → KeepsPartlyOut state layout keep chains unlinked image → MayStop state moment request image
 
--- a request may crash while its next group, an object without a handle, is evicted, once the main item is out
+-- a request may crash while its next eviction unit, an object without a handle, is evicted, once the main item is out
 abbrev pub PartlyOutGroupsMayStop : Type 0
 PartlyOutGroupsMayStop = (state : State) (moment : ℕ) (request : Request) (first others : List Group) (layout : Layout) (number : ℕ) (object : Object) (parts : List ℕ) (keep : Item → Bool) (chains : ℕ → List ℕ) (unlinked : List ℕ) (image : Image) → IsValidState state
     → EvictsFirst state moment request first (room.whole object.key parts ∷ others) → object_at (without first state) number ≡ Some object → object.live ≡ true → is_named (without first state) number ≡ false → LeavesOtherKeys object.key keep

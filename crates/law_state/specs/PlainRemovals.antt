@@ -21,7 +21,7 @@ use Rattle.law_state.specs.DoomLaws.{CanBeDoomed, IsUnchained, layout_doomed}
 use Rattle.law_state.specs.CommandEnds.{without_part}
 use Rattle.law_state.specs.RemovalLaws.{IsRemovalDone, IsUnlinking, IsWithout, chains_without, layout_removed}
 
--- the state without a part that goes alone has its object without the part, and is the one without the part's group
+-- the state without a part that goes alone has its object without the part, and is the one without the part's eviction unit
 abbrev pub PartGoneIsWithout : Type 0
 PartGoneIsWithout = (state : State) (number n : ℕ) (object : Object) → IsValidState state → object_at state number ≡ Some object → object.live ≡ true → is_some (part_at object n) ≡ true
     → IsWithout state (slice_set state.objects number (Some (without_part object n))) (λ item. not (same_item item (part object.key n))) (part object.key n)
@@ -81,15 +81,15 @@ HeldDoomsEnd = (state : State) (moment : ℕ) (request : Request) (layout : Layo
     → CanBeDoomed state layout number object was → IsRemovalDone from (layout.place (main object.key)) between → IsUnchained state layout (layout.place (main object.key)) was between image
     → KeepsUncounted (step state moment request).state (layout_doomed layout number (layout.place (main object.key)) was) unlinked image
 
--- Groups.
+-- Eviction units.
 
--- once the plain object of the next group is removed, the state without one group more is kept but for the counters
+-- once the plain object of the next eviction unit is removed, the state without one eviction unit more is kept but for the counters
 abbrev pub PlainGroupsGo : Type 0
 PlainGroupsGo = (state : State) (first : List Group) (layout : Layout) (unlinked : List ℕ) (from image : Image) (number : ℕ) (object : Object) (parts : List ℕ) (was : Loaded) → KeepsUncounted (without first state) layout unlinked from → object_at (without first state) number ≡ Some object
     → object.live ≡ true → object.parts ≡ [] → is_named (without first state) number ≡ false → IsRemoved layout (main object.key) was from image
     → KeepsUncounted (without (first ++ whole object.key parts ∷ []) state) (layout_removed layout (layout.place (main object.key)) was.contents) (words_of was ++ unlinked) image
 
--- once a part that is the next group is removed, the state without one group more is kept but for the counters
+-- once a part that is the next eviction unit is removed, the state without one eviction unit more is kept but for the counters
 abbrev pub LonePartsGo : Type 0
 LonePartsGo = (state : State) (first : List Group) (layout : Layout) (unlinked : List ℕ) (from image : Image) (number n : ℕ) (object : Object) (was : Loaded) → KeepsUncounted (without first state) layout unlinked from → object_at (without first state) number ≡ Some object
     → object.live ≡ true → is_some (part_at object n) ≡ true → IsRemoved layout (part object.key n) was from image

@@ -29,7 +29,7 @@ RecordUpdatesLeaveCounters = (from image : Image) (w : ℕ) → SameOutside (rec
 
 -- The dirty flag.
 
--- the dirty flag of a node becomes this word: at a moment it is the old one or the new one, and nothing else of the node changes, nor of anything else
+-- the dirty flag of a node becomes this word: meanwhile it is the old one or the new one, and nothing else of the node changes, nor of anything else
 pub record IsMarking (from : Image) (node mark : ℕ) (image : Image) : Type 0 where
   pub outside : SameOutside (record_range node) from image
   pub inside : ChangesInside node from image

@@ -21,12 +21,12 @@ WhatIsLeftMayStop = (state : State) (moment : ℕ) (request : Request) (held : L
 
 -- Orders.
 
--- once the first groups are out and some of the later list steps are made, the durable contents in that order are a crash outcome
+-- once the first eviction units are out and some of the later list steps are made, the durable contents in that order are a crash outcome
 abbrev pub OrdersMayBeLeft : Type 0
 OrdersMayBeLeft = (state : State) (moment : ℕ) (request : Request) (first others : List Group) → IsValidState state → EvictsFirst state moment request first others → (count : ℕ) → count ≤ length (later_steps state request others)
     → MayLeave state moment request (rest (in_order (after_steps (take count (later_steps state request others)) (without first state).uses) (without first state)))
 
--- where a request dooms nothing, all its groups are out and the first items are accessed, the durable contents in that order are a crash outcome
+-- where a request dooms nothing, all its eviction units are out and the first items are accessed, the durable contents in that order are a crash outcome
 abbrev pub UsesMayBeLeft : Type 0
 UsesMayBeLeft = (state : State) (moment : ℕ) (request : Request) (first others : List Item) → IsValidState state → refused moment request state ≡ None → dooms request state ≡ [] → uses_of request state ≡ first ++ others
     → MayLeave state moment request (rest (in_order (used_all first (with_room state moment request).uses) (with_room state moment request)))
@@ -35,7 +35,7 @@ UsesMayBeLeft = (state : State) (moment : ℕ) (request : Request) (first others
 abbrev pub UsesGoOn : Type 0
 UsesGoOn = (first : List Item) (item : Item) (uses : List Item) → used_all (first ++ item ∷ []) uses ≡ used item (used_all first uses)
 
--- once all groups of a request are out, the durable contents are a crash outcome of it
+-- once all eviction units of a request are out, the durable contents are a crash outcome of it
 abbrev pub RoomMayBeLeft : Type 0
 RoomMayBeLeft = (state : State) (moment : ℕ) (request : Request) → IsValidState state → refused moment request state ≡ None → MayLeave state moment request (rest (with_room state moment request))
 

@@ -91,9 +91,10 @@ HeldWholeDoomsEnd =
     → IsPlacedAsLive state layout number object loaded → is_named state number ≡ true → IsWholeUnchained state layout object.key loaded chains from image
     → KeepsUncounted (step state moment request).state (layout_doomed_whole state layout number object.key chains) (words_of_parts state layout object.key ++ unlinked) image
 
--- Groups.
+-- Eviction units.
 
--- once the object of the next group is out with its parts, the state without one group more is kept but for the counters, as in a Trim and where space is made
+-- once the object of the next eviction unit is out with its parts, the state without one eviction unit more is kept but for the counters, as in a Trim and
+-- where space is made
 abbrev pub WholeGroupsGo : Type 0
 WholeGroupsGo = (state : State) (first : List Group) (layout : Layout) (unlinked : List ℕ) (chains : ℕ → List ℕ) (from image : Image) (number : ℕ) (object : Object) (parts : List ℕ) → KeepsUncounted (without first state) layout unlinked from → object_at (without first state) number ≡ Some object
     → object.live ≡ true → is_named (without first state) number ≡ false → IsWholeOut (without first state) layout object.key chains from image

@@ -1,4 +1,4 @@
--- Where each command may crash, at each word of its calls: accesses of items, dirty flags, removals and groups.
+-- Where each command may crash, at each word of its calls: accesses of items, dirty flags, removals and eviction units.
 use Rattle.std.specs.Prelude.{◌≡◌, ◌⊎◌, ℕ, Bool, List, [], ◌∷◌, ◌++◌, None, Some, filter, false, not, if◌then◌else◌, nat_lt, true}
 use Rattle.spec_image.specs.Image.{Image}
 use Rattle.blk_model.specs.EvictionLaws.{EvictsFirst}
@@ -115,14 +115,14 @@ pub record IsPartOut (state : State) (layout : Layout) (key : List ℕ) (n : ℕ
 abbrev pub PartOutIsGone : Type 0
 PartOutIsGone = (state : State) (layout : Layout) (key : List ℕ) (n : ℕ) (image : Image) → IsValidState state → IsPartOut state layout key n image → Finds (rest (without (single key n ∷ []) state)) image
 
--- Groups.
+-- Eviction units.
 
--- a request may crash while its next group is evicted: the durable contents before that are held, or those without the group
+-- a request may crash while its next eviction unit is evicted: the durable contents before that are held, or those without that unit
 abbrev pub GroupsMayStop : Type 0
 GroupsMayStop = (state : State) (moment : ℕ) (request : Request) (first others : List Group) (group : Group) (before : Bool) (image : Image) → IsValidState state → EvictsFirst state moment request first (group ∷ others)
     → Finds (if before then rest (without first state) else rest (without (group ∷ []) (without first state))) image → MayStop state moment request image
 
--- a request may crash while its next group, an object that no handle names, is evicted as if it were doomed
+-- a request may crash while its next eviction unit, an object that no handle names, is evicted as if it were doomed
 abbrev pub WholeGroupsMayStop : Type 0
 WholeGroupsMayStop = (state : State) (moment : ℕ) (request : Request) (first others : List Group) (number : ℕ) (object : Object) (parts : List ℕ) (before : Bool) (image : Image) → IsValidState state → EvictsFirst state moment request first (whole object.key parts ∷ others)
     → IsValidState (without first state) → object_at (without first state) number ≡ Some object → object.live ≡ true → is_named (without first state) number ≡ false

@@ -16,8 +16,8 @@ ghost use Rattle.law_state.specs.CreateStops.{InsertsMayStop, LinksMayStop, Crea
 ghost use Rattle.law_state.specs.RestLaws.{RestsAreNotRefused, RestsEvictTheOthersOrNone, TrimsGoOn, RestsHaveTheLaterSteps, RestsEndAlike, StopsInRestsAreInTheWhole, StopOnlyInTheRest};
 ghost use Rattle.law_state.specs.StopLaws.{WhatIsLeftMayStop, OrdersMayBeLeft, UsesMayBeLeft, UsesGoOn, RoomMayBeLeft, HandlesAreNotAtRest, DoomedObjectsAreNotAtRest, UnsettledObjectsAreNotAtRest, OwnUsesKeepOthers, OthersMayBeLeftOnceUnsettled, OthersMayBeLeftWhileDoomed};
 
-/// Once the first groups of a request are evicted and some of its later list steps are made, the durable contents in that order are a crash outcome of it. A
-/// request may crash where a crash outcome of it is recovered.
+/// Once the first eviction units of a request are evicted and some of its later list steps are made, the durable contents in that order are a crash outcome of
+/// it. A request may crash where a crash outcome of it is recovered.
 pub fn orders_may_be_left()
     ensures stops { WhatIsLeftMayStop }
     ensures orders { OrdersMayBeLeft }
@@ -43,8 +43,8 @@ pub fn others_may_be_left()
     ensures doomed { OthersMayBeLeftWhileDoomed }
 {}
 
-/// A request that isn't refused has its effect on the state without all that it evicts, group after group, and its reply is by the state before. A Trim ends in
-/// that state, and the durable contents without its first groups are a crash outcome of it.
+/// A request that isn't refused has its effect on the state without all that it evicts, one unit after another, and its reply is by the state before. A Trim
+/// ends in that state, and the durable contents without its first eviction units are a crash outcome of it.
 pub fn requests_take_effect()
     ensures effect { PassedRequestsTakeEffect }
     ensures in_turn { GroupsGoInTurn }
@@ -135,9 +135,9 @@ pub fn uses_may_be_stopped()
     ensures cleans { CleaningMayStop }
 {}
 
-/// At each word of the removal of an object's main item, the folder holds the old durable contents, and from the second write on those with the object doomed; of
-/// a part that goes alone it gives the old ones, and then those without it. So a Doom or a DoomKey may crash there, and a request while its next group is
-/// evicted.
+/// At each word of the removal of an object's main item, the folder holds the old durable contents, and from the second write on those with the object doomed;
+/// of a part that goes alone it gives the old ones, and then those without it. So a Doom or a DoomKey may crash there, and a request while its next eviction
+/// unit is evicted.
 pub fn removals_may_be_stopped()
     ensures either { DoomsFindEither }
     ensures out { OutIsDoomed }
@@ -182,7 +182,7 @@ pub fn commands_of_one_call()
 
 /// While the record of a plain object without a handle, or of a part that goes alone, goes out of its chain, the folder holds the durable contents without it.
 /// Once it is removed, the folder keeps the state without it but for the counters, and its words are unlinked. So a Doom or a DoomKey of a plain object ends,
-/// with or without a handle, and so the next group is evicted.
+/// with or without a handle, and so the next eviction unit is evicted.
 pub fn plain_objects_are_removed()
     ensures part { PartGoneIsWithout }
     ensures removing { RemovingFindsDoomed }
@@ -196,7 +196,7 @@ pub fn plain_objects_are_removed()
 {}
 
 /// Once an object is out with its parts, the folder keeps the state with it doomed but for the counters. Where no handle names it its words are unlinked, and
-/// where one does those of its parts. So a Doom or a DoomKey ends, and so the next group is evicted.
+/// where one does those of its parts. So a Doom or a DoomKey ends, and so the next eviction unit is evicted.
 pub fn whole_objects_are_removed()
     ensures removed { WholeObjectsAreRemoved }
     ensures unheld_dooms { UnheldWholeDoomsEnd }
@@ -206,7 +206,7 @@ pub fn whole_objects_are_removed()
 {}
 
 /// Once all items of an object without a handle are out, freed or not, the state after a DoomKey of it is kept but for the counters, and so is the state
-/// without the group that has these items.
+/// without the eviction unit that has these items.
 pub fn objects_go_part_after_part()
     ensures unheld_dooms { UnheldOutDoomsEnd }
     ensures groups { OutGroupsAreGone }
@@ -219,9 +219,9 @@ pub fn held_objects_go_part_after_part()
     ensures dooms { HeldOutDoomsEnd }
 {}
 
-/// Once the main item of an object is out, and while its parts go out one after another, the folder holds the durable contents with the object doomed. So it does
-/// at each word of the removal of a part, while a record goes out of its chain, while blocks are freed and while an external file is deleted; and there a Doom
-/// or a DoomKey may crash, and a request whose next group is evicted.
+/// Once the main item of an object is out, and while its parts go out one after another, the folder holds the durable contents with the object doomed. So it
+/// does at each word of the removal of a part, while a record goes out of its chain, while blocks are freed and while an external file is deleted; and there a
+/// Doom or a DoomKey may crash, and a request whose next eviction unit is evicted.
 pub fn parts_may_be_stopped_between()
     ensures leave { ItemsOfAKeyLeaveOthers }
     ensures out { PartlyOutIsOut }
@@ -251,9 +251,9 @@ pub fn creates_may_be_stopped()
     ensures ends { CreatesEndOnceCounted }
 {}
 
-/// The rest of a command, which is the command on the state without the first groups that it evicts, isn't refused, and evicts the groups that are left, or
-/// nothing; the rest of a Trim evicts something where groups are left. Where the rest evicts something if groups are left, its list steps are the later ones of
-/// the whole command, it ends in the same state, and a crash outcome of it is one of the whole command; else one need not be.
+/// The rest of a command, which is the command on the state without the first eviction units that it evicts, isn't refused, and evicts the eviction units that
+/// are left, or nothing; the rest of a Trim evicts something where eviction units are left. Where the rest evicts something if eviction units are left, its
+/// list steps are the later ones of the whole command, it ends in the same state, and a crash outcome of it is one of the whole command; else one need not be.
 pub fn rests_of_commands_may_be_stopped()
     ensures passes { RestsAreNotRefused }
     ensures evicts { RestsEvictTheOthersOrNone }

@@ -79,8 +79,8 @@ pub fn blocks_are_allocated()
     ensures freed { FreedBlocksAreGone }
 {}
 
-/// A request may crash where the durable contents before it are recovered, or those after it, or those without the first groups that it evicts; so it may
-/// before its first word, where its state is kept.
+/// A request may crash where the durable contents before it are recovered, or those after it, or those without the first eviction units that it evicts; so it
+/// may before its first word, where its state is kept.
 pub fn requests_may_be_stopped()
     ensures before { RequestsMayStopBefore }
     ensures after { RequestsMayStopAfter }

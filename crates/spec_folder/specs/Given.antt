@@ -1,4 +1,4 @@
--- What of a layout is given to a walk.
+-- The records that a layout gives to the nodes of a walk, those that pass a test.
 use Rattle.std.specs.Prelude.{◌≡◌, ℕ, List, Bool, true, false, cond, not, ◌&&◌, ◌||◌, ◌==◌, if◌then◌else◌}
 use Rattle.std.specs.Option.{option_map_or, option_and_then}
 use Rattle.std.specs.declared.option.Option.{Option}

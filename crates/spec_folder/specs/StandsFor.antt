@@ -61,7 +61,7 @@ pub record StandsFor (image : Image) (state : State) : Type 0 where
   pub owned : AreOwned image (claims_of_loaded (kept_by listed_rule (view_of image) ++ map (λ d. d.1) doomed))
   pub in_order : IsInOrder image (kept_by listed_rule (view_of image)) (map (λ d. d.1) doomed)
 
--- What of a layout is asked for that.
+-- What a layout has of the doomed objects.
 
 -- what lies at the nodes of the doomed objects of these numbers, each with its number
 abbrev pub doomed_of : Layout → List ℕ → List (ℕ × Loaded)

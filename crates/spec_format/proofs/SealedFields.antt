@@ -1,4 +1,4 @@
--- The fields of a record at each moment of an update under a checksum 0: each has its old or its new word.
+-- The fields of a record in the midst of an update under a checksum 0: each has its old or its new word.
 use Rattle.std.proofs.Common.{◌≡◌, ◌≢◌, ◌⊎◌, inl, inr, ℕ, zero, suc, ◌+◌, ◌^◌, ◌%◌, ◌<◌, ◌≤◌, List, [], ◌∷◌, length, take, get_or, get_or-take, All, refl, sym, ◌∙◌, ap, arith, ⊎_elim}
 use Rattle.std.proofs.lemmas.Bool.{cases_lt}
 use Rattle.std.proofs.lemmas.List.{length-take}
@@ -109,7 +109,7 @@ module _ (from image : Image) (w : ℕ) (changes : List (ℕ × ℕ)) (are : Are
       ∙ word-set made i d (record_at from w) (omega (arith, length-take moment.made changes, within)) (different-take moment.made changes are.different) aligned_made inside (All-take (λ c. c.1 < 2 ^ 32) moment.made changes small)
       ∙ ap (λ (c : ℕ × ℕ). c.1) same
 
--- one change: at each moment the field has its old or its new word, and every other field is as before
+-- one change: in the midst of the update the field has its old or its new word, and every other field is as before
 pub one_change : (from image : Image) (w p v : ℕ) → AreChanges (seal_place w) ((p, v) ∷ []) → v < 2 ^ 32 → IsMidUpdate from w ((p, v) ∷ []) image
     → (word_at (content (record_at image w)) p ≡ word_at (content (record_at from w)) p) ⊎ (word_at (content (record_at image w)) p ≡ v)
 one_change from image w p v are small moment =

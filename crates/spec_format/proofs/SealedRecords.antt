@@ -1,4 +1,4 @@
--- A record with a checksum at each moment of its update.
+-- A record with a checksum before and after each write of its update.
 use Rattle.std.proofs.Common.{◌≡◌, ℕ, ◌+◌, ◌%◌, ◌<◌, ◌≤◌, Bool, true, false, if◌then◌else◌, List, [], ◌∷◌, ◌++◌, length, take, drop, All, take-append-drop, refl, sym, ◌∙◌, ap, subst, arith, append_assoc, append-nil, length-append, inr, ◌*◌, ⊎_elim}
 use Rattle.std.specs.Prelude.{◌==◌}
 use Rattle.std.proofs.lemmas.Bool.{cases_lt, eqb-true}
@@ -86,7 +86,7 @@ module _ (w : ℕ) where
       pub zero : word_at (content (record_at image w)) (seal_place w) ≡ 0
       pub outside : SameOutside (record_range w) from image
 
-    -- it is a moment of the update, where they are its first
+    -- the update is under way, where these changes are its first
     moment_unsealed : (done left : List (ℕ × ℕ)) (image : Image) → done ++ left ≡ changes → Unsealed done image → IsMidUpdate from w changes image
     moment_unsealed done left image all state = record {
       made = length done;
@@ -146,7 +146,7 @@ module _ (w : ℕ) where
           moments_rest (done ++ c ∷ []) left (applied (step_of c.0 c.1) image) (append_assoc done (c ∷ []) left ∙ all) (All-tail (λ c. c.0 + 4 ≤ seal_place w) c left before) (unsealed_next done c image first state),
         )
 
-    -- each moment of the update
+    -- before and after each write of the update
     pub moments : Fits from → RecordChecks w from → All (λ c. c.0 + 4 ≤ seal_place w) changes → Along (IsMidUpdate from w changes) from (sealed_steps from w changes)
     unfolding update_steps word_step step_of
     moments fits checks before = (moment_before from changes checks, moments_rest [] changes (applied (step_of (seal_place w) 0) from) refl before (unsealed_first fits))
@@ -223,7 +223,7 @@ module _ (w : ℕ) (from : Image) (fits : Fits w from) where
         outside = outside-step w from from s (seal_of s bytes) (omega arith) (outside-refl (record_range w) from);
       }
 
-  -- at each moment it is as after an update without changes
+  -- before and after its write it is as in an update without changes
   pub sealing : RecordChecks w from → Along (IsMidUpdate from w []) from (seal_steps from w)
   unfolding seal_steps word_step step_of seal_step
   sealing good = by_test (is_sealed (seal_place w) (record_at from w))

@@ -21,7 +21,7 @@ commits_none count old new from P Q there stays before = record {
   commits = λ image here. subst P (some_inj (sym there ∙ here)) before;
 }
 
--- a call of which a part was done
+-- a call of which a prefix of the steps was made
 pub commits_prefix : (count : ℕ) (old new : Told) (from : Image) (P Q : Image → Type 0) (steps : List TrailStep) → old.files ≡ Some from → IsQuiet steps → CommitsAt count P Q from steps → AppliesPrefix old new steps → Commits count old new P Q
 commits_prefix count old new from P Q steps there quiet whole part = record {
   steps = part.made;

@@ -1,4 +1,4 @@
--- What steps that a command may make leave.
+-- What stays as it is through the steps that a command may make.
 use Rattle.std.proofs.Common.{◌≡◌, ℕ, ◌+◌, ◌≤◌, Bool, true, false, ◌&&◌, ◌||◌, List, [], ◌∷◌, ◌++◌, length, Option, None, Some, refl, sym, ◌∙◌, ap, subst, arith}
 use Rattle.std.specs.Prelude.{nat_le, nat_lt}
 use Rattle.std.specs.Option.{ForSome, option_map}
@@ -67,11 +67,11 @@ no-note (SetLength f n ∷ s) quiet = no-note s (only_there (is_quiet (SetLength
 no-note (Delete f ∷ s) quiet = no-note s (only_there (is_quiet (Delete f)) quiet).1
 no-note (Note n ∷ s) quiet = absurd quiet
 
--- a call of a command is one that makers and openers may use
+-- what a call of a command may do, a call that makes or opens a folder may do too
 pub passes_any : {a b : Told} {P Q : Image → Type 0} → PassesTo a b P Q → PassesAnyTo a b P Q
 passes_any {a} {b} {P} {Q} first = record { steps = first.steps; applies = first.applies; unnoted = no-note first.steps first.quiet; along = first.along }
 
--- at each moment of a call of a command it is the same session as before
+-- after each step of a call of a command it is the same session as before
 pub passes_in_session : {a b : Told} {P Q : Image → Type 0} → PassesTo a b P Q → ForSome a.files (λ from. PassesTo a b (λ i. P i × SaysTheSameSession from i) (λ i. Q i × SaysTheSameSession from i))
 passes_in_session {a} {b} {P} {Q} first from there = record {
   steps = first.steps;
@@ -87,7 +87,7 @@ passes_in_session {a} {b} {P} {Q} first from there = record {
       inj : Some from ≡ Some image → from ≡ image
       inj e = cc
 
--- Calls of makers and openers, as `Runs` has those of commands.
+-- Calls that make or open a folder, as `Runs` has those of commands.
 
 pub noteless_prefix : (s t : List TrailStep) → HasNoNote (s ++ t) → HasNoNote s
 noteless_prefix [] t none = tt

@@ -24,7 +24,7 @@ grows_then {a} {b} {c} {s} {t} first second = record {
   trail = longer_more s t a.trail b.trail c.trail first.trail second.trail;
 }
 
--- a call that was answered, and a part of what follows it
+-- a whole call, and a prefix of the steps that follow it
 pub part_then : {a b c : Told} {s t : List TrailStep} → Applies a b s → AppliesPrefix b c t → AppliesPrefix a c (s ++ t)
 part_then {a} {b} {c} {s} {t} first second = record {
   made = s ++ second.made;
@@ -33,7 +33,7 @@ part_then {a} {b} {c} {s} {t} first second = record {
   applies = grows_then first second.applies;
 }
 
--- a part of a call, and nothing of what would follow it
+-- a prefix of a call's steps, and none of those that would follow
 pub part_only : {a b : Told} {s : List TrailStep} (t : List TrailStep) → AppliesPrefix a b s → AppliesPrefix a b (s ++ t)
 part_only {a} {b} {s} t first = record {
   made = first.made;
@@ -42,7 +42,7 @@ part_only {a} {b} {s} t first = record {
   applies = first.applies;
 }
 
--- all of it is a part of it
+-- all steps are a prefix of them
 pub part_whole : {a b : Told} {s : List TrailStep} → Applies a b s → AppliesPrefix a b s
 part_whole {a} {b} {s} all = record { made = s; left = []; split = sym (append-nil s); applies = all }
 
@@ -62,7 +62,7 @@ told_after P s t None b is all image there = absurd (elim_none (sym there ∙ is
     elim_none e = cc
 told_after P s t (Some from) b is all image there = subst P (some_inj (sym is ∙ there)) (along_prefix P s t from (all from refl))
 
--- a part of the steps leaves files that have P, where each prefix of them does
+-- a prefix of the steps leaves files that have P, where each prefix of them does
 pub told_part : {a b : Told} {s : List TrailStep} (P : Image → Type 0) → AppliesPrefix a b s → ForSome a.files (λ image. Along P image s) → ForSome b.files P
 told_part {a} {b} {s} P part all =
     told_after P part.made part.left a.files b.files part.applies.files (λ image there. subst (Along P image) part.split (all image there))
@@ -130,11 +130,11 @@ grows_none {a} {b} same = record { files = ap (λ (t : Told). t.files) same ∙ 
     trail_none None = refl
     trail_none (Some trail) = ap (λ (s : List TrailStep). Some (record { start = trail.start; steps = s })) (sym (append-nil trail.steps))
 
--- no call was made, or one that stayed
+-- no call was made, or one without a step
 pub passes_none : {a b : Told} (P : Image → Type 0) → b ≡ a → ForSome a.files P → PassesTo a b P P
 passes_none {a} {b} P same holds = record { steps = []; applies = grows_none same; quiet = tt; along = holds }
 
--- a call of which a part was done
+-- a call of which a prefix of the steps was made
 pub passes_part : {a b : Told} {s : List TrailStep} (P Q : Image → Type 0) → AppliesPrefix a b s → IsQuiet s → ((image : Image) → P image → Q image) → ForSome a.files (λ image. Until P Q image s) → PassesTo a b P Q
 passes_part {a} {b} {s} P Q part quiet weaker all = record {
   steps = part.made;
@@ -201,15 +201,15 @@ passes_weaker {a} {b} {P} {P'} {Q} {Q'} first before last = record {
   along = λ image there. until_weaker2 P P' Q Q' first.steps image before last (first.along image there);
 }
 
--- a call that stayed comes before
+-- a call without a step comes before
 pub passes_stayed : {a m b : Told} {P Q : Image → Type 0} → m ≡ a → PassesTo m b P Q → PassesTo a b P Q
 passes_stayed {a} {m} {b} {P} {Q} stays rest = subst (λ (t : Told). PassesTo t b P Q) stays rest
 
--- an opaque folder owes nothing
+-- of an opaque folder that stays as it is any steps have a prefix that was made, the empty one
 pub part_untold : {a b : Told} (s : List TrailStep) → a.files ≡ None → a.trail ≡ None → b ≡ a → AppliesPrefix a b s
 part_untold {a} {b} s files trail same = record { made = []; left = s; split = refl; applies = grows_none same }
 
--- a part of a prefix of a write is a part of the write
+-- a prefix of the steps of a prefix of a write is one of the write's steps
 pub part_of_front : (a b : Told) (f : File) (at n : ℕ) (bs : List ℕ) → n ≤ length bs → (n ≡ length bs) ⊎ (((at + n) % 4 ≡ 0) ⊎ (n ≡ 0)) → AppliesPrefix a b (words f at (take n bs)) → AppliesPrefix a b (words f at bs)
 unfolding words
 part_of_front a b f at n bs fits (inl all) part = subst (λ (l : List ℕ). AppliesPrefix a b (words f at l)) (take_all n bs (omega arith)) part
@@ -220,7 +220,7 @@ part_of_front a b f at n bs fits (inr (inr none)) part = part_only (words f at b
 pub passes_step : {a b : Told} {x : TrailStep} (P : Image → Type 0) → Applies a b (x ∷ []) → IsQuiet (x ∷ []) → ForSome a.files (λ image. P image × P (applied x image)) → PassesTo a b P P
 passes_step {a} {b} {x} P grows quiet both = record { steps = x ∷ []; applies = grows; quiet = quiet; along = both }
 
--- what two facts say of each moment they say together
+-- what two facts say before and after each step they say together
 pub until_both : (P P' Q Q' : Image → Type 0) (s : List TrailStep) (image : Image) → Until P Q image s → Until P' Q' image s → Until (λ i. P i × P' i) (λ i. Q i × Q' i) image s
 until_both P P' Q Q' [] image one other = (one, other)
 until_both P P' Q Q' (x ∷ s) image one other = ((one.0, other.0), until_both P P' Q Q' s (applied x image) one.1 other.1)
@@ -240,7 +240,7 @@ same_steps a b trail s t told one other =
     let first : Some (longer s trail) ≡ Some (longer t trail) = ap (option_map (longer s)) (sym told) ∙ sym one.trail ∙ other.trail ∙ ap (option_map (longer t)) told in
     same_rest trail.steps s t (ap (λ (r : Trail). r.steps) (some_inj first))
 
--- what two clauses of one call say of each moment they say together
+-- what two clauses of one call say before and after each step they say together
 pub passes_both : {a b : Told} {P P' Q Q' : Image → Type 0} (trail : Trail) → a.trail ≡ Some trail → PassesTo a b P Q → PassesTo a b P' Q' → PassesTo a b (λ i. P i × P' i) (λ i. Q i × Q' i)
 passes_both {a} {b} {P} {P'} {Q} {Q'} trail told one other =
     let same : other.steps ≡ one.steps = same_steps a b trail other.steps one.steps told other.applies one.applies in

@@ -36,11 +36,11 @@ StepsOfOneCallAreOne = (old new : Told) (trail : Trail) (steps others : List Tra
 abbrev pub QuietStepsKeepTheSession : Type 0
 QuietStepsKeepTheSession = (steps : List TrailStep) (image : Image) → IsQuiet steps → Along (SaysTheSameSession image) image steps
 
--- so it is after a call that makes such steps
+-- after a call that makes such steps it is the same session as before
 abbrev pub CommandsKeepTheSession : Type 0
 CommandsKeepTheSession = (old new : Told) (steps : List TrailStep) → IsQuiet steps → Applies old new steps → ForSome old.files (λ from. ForSome new.files (SaysTheSameSession from))
 
--- steps that a command may make are none of them a note
+-- no step that a command may make is a note
 abbrev pub QuietStepsHaveNoNote : Type 0
 QuietStepsHaveNoNote = (steps : List TrailStep) → IsQuiet steps → HasNoNote steps
 

@@ -104,7 +104,8 @@ pub record SaysTheSameSession (from image : Image) : Type 0 where
   pub size : length_of image Index ≡ length_of from Index
   pub there : has_file image Index ≡ has_file from Index
 
--- steps of a maker or an opener were made, which may touch every word, none of them a note; P holds of the files before each of them, and Q after the last
+-- steps of a call that makes or opens a folder were made, which may touch every word, none of them a note; P holds of the files before each of them, and Q
+-- after the last
 pub record PassesAnyTo (old new : Told) (P Q : Image → Type 0) : Type 0 where
   pub steps : List TrailStep
   pub applies : Applies old new steps
@@ -130,7 +131,7 @@ Passes old new P = PassesTo old new P P
 abbrev pub Rises : ℕ → ℕ → Type 0
 Rises before now = now < 2 ^ 64 - 1 → before < now
 
--- a call that reads and writes nothing leaves this of what is seen of a folder: no step was made, the count of its failed calls never falls, and where
+-- what a call that writes nothing leaves of the observable state of a folder: no step was made, the count of its failed calls never falls, and where
 -- the call's answer is that the folder failed, which `if_failed` asks, that count rose
 pub record ReadsOnly {S : Type 0} (told : S → Told) (faults : S → ℕ) (old new : S) (if_failed : Type 0 → Type 0) : Type 0 where
   pub stays : Stays (told old) (told new)

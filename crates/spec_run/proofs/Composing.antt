@@ -63,7 +63,7 @@ finished image well_formed = (finished_whole image well_formed).finished
 
 -- The folder after some steps.
 
--- whatever step is the last of some: where it may follow those before it, it is one of those that a crash tells
+-- the last of some steps may follow those before it, however the steps are written as a list with a last one
 follows : (opened : State) (commands : List Stamped) (n : ℕ) (made : List TrailStep) (x : TrailStep) → notes_in made ≡ n
     → MayFollow opened commands n (command_after commands n) x → (before : List TrailStep) (step : TrailStep) → made ++ x ∷ [] ≡ before ++ step ∷ []
     → MayFollow opened commands (notes_in before) (command_after commands (notes_in before)) step

@@ -106,7 +106,7 @@ picked_together before after with item other row pick same =
       (picked_chooses before after with).somebody other o ∙ ap (λ (n : ℕ). cond (stays_through before after with n) (row_in o.object other) None) number ∙ ap (λ (b : Bool). cond b (row_in o.object other) None) pick.stays ∙ value.1,
     )
 
--- Rows that go by a list.
+-- Rows that follow a list.
 
 go_by : (state after : State) (with : Bool) (list : List Item) → GoBy state list (filter_map (picked state after with) list)
 go_by state after with list =

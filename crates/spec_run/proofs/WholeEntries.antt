@@ -126,7 +126,7 @@ fine-append : (a b : Item) (s t : List ListStep) (items : List Item) → AreFine
 fine-append a b [] t items fine later = later
 fine-append a b (step ∷ s) t items fine later = (fine.0, fine-append a b s t (after_step items step) fine.1 later)
 
--- an item is in no group of its own
+-- an item is in no eviction unit of its own
 abbrev IsNotAlone : Item → List Group → Type 0
 IsNotAlone b groups = (key : List ℕ) (n : ℕ) → b ≡ part key n → Contains groups (single key n) → ⊥
 

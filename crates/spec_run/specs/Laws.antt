@@ -100,7 +100,7 @@ abbrev pub ErrorsArePlayed : Type 0
 ErrorsArePlayed = (script : Script) (state : State) (clock : Readings) (made : List Turn) (text : List ℕ) (next : Script) (now : State) (readings : Readings)
     → IsPlayed script state clock made (errs text next) now readings → IsPlayed script state clock (made ++ error_turn text ∷ []) next now readings
 
--- where something is turned away next, a script is played on by its iteration, which takes a reading of the clock
+-- where something is rejected outside the cache next, a script is played on by its iteration, which takes a reading of the clock
 abbrev pub RefusalsOutsideArePlayed : Type 0
 RefusalsOutsideArePlayed = (script : Script) (state : State) (clock : Readings) (made : List Turn) (text : List ℕ) (next : Script) (now : State) (readings : Readings)
     → IsPlayed script state clock made (turns_away text next) now readings → IsPlayed script state clock (made ++ away_turn text ∷ []) next now (later_of readings)
@@ -139,16 +139,16 @@ AskedCommandsAreNext = (script : Script) (found : List Row) (limits : Bounds) (r
     → IsPlayed script (open_state found limits) (later_of readings) made (asks request shown next) now readings_now
     → (more : List Stamped) × (commands (run_of script found limits readings) ≡ commands_of made ++ stamped_by readings_now request ∷ more)
 
--- where a script turns nothing away the clock is read once for each command and for nothing else, in each prefix of its iterations
+-- where a script rejects nothing outside the cache, the clock is read once for each command and for nothing else, in each prefix of its iterations
 abbrev pub ClockIsReadForCommands : Type 0
 ClockIsReadForCommands = (script : Script) → TurnsNoneAway script → (count : ℕ) (state : State) (clock : Readings)
     → readings_of (take count (turns script state clock)) ≡ length (commands_of (take count (turns script state clock)))
 
--- the script of a session's lines turns nothing away
+-- the script of a session's lines rejects nothing outside the cache
 abbrev pub LinesTurnNoneAway : Type 0
 LinesTurnNoneAway = (number : ℕ) (texts : List (List ℕ)) → TurnsNoneAway (session_script number texts)
 
--- the scripts of the other subcommands turn nothing away: commands up to the first that is refused, the totals, and `put`
+-- the scripts of the other subcommands reject nothing outside the cache: commands up to the first that is refused, the totals, and `put`
 abbrev pub FixedScriptsTurnNoneAway : Type 0
 FixedScriptsTurnNoneAway = ((requests : List Request) → TurnsNoneAway (until_refused requests)) × (TurnsNoneAway count_script × ((key : List ℕ) (stream : ℕ) (bytes : List ℕ) → TurnsNoneAway (put_script key stream bytes)))
 
@@ -269,19 +269,19 @@ abbrev pub Precedes : {X : Type 0} → List X → X → X → Type 0
 Precedes [] one other = ⊥
 Precedes (x ∷ xs) one other = ((x ≡ one) × Contains xs other) ⊎ Precedes xs one other
 
--- rows go by a list: they are of items in it, with an item of an object there are all those of that object in the list, and they have its order
+-- rows follow a list: they are of items in it, with an item of an object there are all those of that object in the list, and they have its order
 pub record GoBy (state : State) (list : List Item) (rows : List Row) : Type 0 where
   pub listed : (row : Row) → Contains rows row → Contains list (item_of row)
   pub together : (row : Row) (item : Item) → Contains rows row → owner state item ≡ owner state (item_of row) → Contains list item → HasItsRow state rows item
   pub in_order : (one other : Row) → Contains rows one → Contains rows other → Precedes list (item_of one) (item_of other) → Precedes rows one other
 
--- what is found goes by one list: the LRU list after so many of the command's steps on it
+-- what is found follows one list: the LRU list after so many of the command's steps on it
 abbrev pub FoundRowsGoByOneList : Type 0
 FoundRowsGoByOneList = (from image : Image) (opened state : State) (commands : List Stamped) (steps : List TrailStep) (command : Stamped)
     → CrashesIn from image opened state commands steps command → (count : ℕ) × (count ≤ length (list_steps state command.moment command.request))
     × GoBy state (list_after state command.moment command.request count) (found image)
 
--- a command evicts an item alone: the item is a part, and one of the groups that the command evicts
+-- a command evicts an item alone: the item is a part, and one of the eviction units that the command evicts
 abbrev pub IsEvictedAlone : State → Stamped → Item → Type 0
 IsEvictedAlone state command (main key) = ⊥
 IsEvictedAlone state command (part key n) = Contains (outcome_in state command).groups (single key n)
@@ -310,8 +310,8 @@ StatesOfRunsAreValid = (from : Image) (opened : State) (commands : List Stamped)
 
 -- Replies.
 
--- a command is answered where a run broke off: more was printed than the texts of the iterations before it and what may be out before its note, so a part of its
--- reply
+-- a command is answered where a run broke off: more was printed than the texts of the iterations before it and what may be out before its note, so a part of
+-- its reply
 pub record IsReplyOut (turns : List Turn) (printed : List ℕ) (before : List Turn) (command : Stamped) : Type 0 where
   pub turn : Turn
   pub behind : List Turn

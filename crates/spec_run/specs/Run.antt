@@ -41,7 +41,7 @@ error_turn text = record { command = None; reads = false; text = text; early = [
 abbrev pub text_turn : List ℕ → Turn
 text_turn text = record { command = None; reads = false; text = text; early = []; refuses = false }
 
--- the iteration of something that is turned away: the clock is read, but the cache is given no command
+-- the iteration of something that is rejected outside the cache: the clock is read, but the cache is given no command
 abbrev pub away_turn : List ℕ → Turn
 away_turn text = record { command = None; reads = true; text = text; early = []; refuses = true }
 
@@ -53,7 +53,7 @@ command_turn command shown = record { command = Some command; reads = true; text
 abbrev pub stamped_by : Readings → Request → Stamped
 stamped_by clock request = record { moment = reading_of clock; request = request }
 
--- the iterations of a script from a state on, with the readings to come: each command, and what is turned away, at the next reading
+-- the iterations of a script from a state on, with the readings to come: each command, and what is rejected outside, at the next reading
 unfoldable pub turns : Script → State → Readings → List Turn
 turns ended state clock = []
 turns (errs text script) state clock = error_turn text ∷ turns script state clock

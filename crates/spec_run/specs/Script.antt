@@ -24,8 +24,8 @@ pub record Shown : Type 0 where
   pub early : List ℕ
   pub refuses : Bool
 
--- a script: its end; or, before what follows, the text of a fault, a text of the state, the text of something that is turned away (the clock is read as before
--- a command, and the cache is asked nothing), or a command, with what is shown of it; what follows a command may depend on its outcome
+-- a script: its end; or, before what follows, the text of a fault, a text of the state, the text of something that is rejected outside the cache (the clock is
+-- read as before a command, and the cache is asked nothing), or a command, with what is shown of it; what follows a command may depend on its outcome
 pub data Script : Type 0 where
   ended : Script
   errs : List ℕ → Script → Script
@@ -123,7 +123,7 @@ count_script = says totals_text ended
 
 -- What a script doesn't do.
 
--- a script turns nothing away, whatever its commands' outcomes are
+-- a script rejects nothing outside the cache, whatever its commands' outcomes are
 unfoldable pub TurnsNoneAway : Script → Type 0
 TurnsNoneAway ended = Unit {0}
 TurnsNoneAway (errs text script) = TurnsNoneAway script

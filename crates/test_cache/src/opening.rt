@@ -72,7 +72,7 @@ fn a_clean_folder_of_4000_entries_is_opened_by_few_calls(rt: HostRuntime) -> Res
 // What is found in a folder: how many items with how many bytes, and the hash of their keys and data in the order of the list.
 type Found = ((u64, u64), u64);
 
-// Audits the folder. Gives what is found in it.
+// Checks the folder. Gives what is found in it.
 fn found_now(alloc: Global, f: &mut Mem) -> Result<Found, ScanFault> {
     let scan = audited(alloc, f)?;
     Ok(((scan.items(), scan.bytes()), found(f, &scan)?))

@@ -66,14 +66,14 @@ fn put_removal(f: &mut Silent) -> Result<(), Fault> {
     Ok(())
 }
 
-// Takes the operation out of flight, and has the last node lead to the first.
+// Ends the operation in flight, and has the last node lead to the first.
 fn put_ring(f: &mut Silent) -> Result<(), Fault> {
     link(f, 0, NODES[1], NODES[2])?;
     write_word(f, FileId::Index, 328, 0)?;
     Ok(())
 }
 
-// What is walked with the removal in flight, and then in the ring.
+// What is walked with the removal in flight, and then in the loop.
 fn walked_on(alloc: Global, f: &mut Silent) -> Result<[[u32; 3]; 2], ScanFault> {
     put_removal(f)?;
     let without = walked(alloc, f)?.0;

@@ -372,7 +372,7 @@ fn a_record_that_does_not_check_is_a_damage(rt: HostRuntime) {
     assert_eq!(rt; unsealed(rt.alloc()), Err(damage(92, 5)));
 }
 
-// What is found of the three keys when one is unlinked and so many words last, and whether it was unlinked.
+// What is found of the three keys when one is unlinked and so many words are written, and whether it was unlinked.
 fn stopped_taking(alloc: Global, key: usize, steps: u64) -> Result<(bool, Three), Fault>
     requires { key < 3 }
 {
@@ -408,7 +408,7 @@ fn with_third(alloc: Global) -> Result<Silent, Fault> {
     Ok(f)
 }
 
-// What is found of the three keys when the third is linked and so many words last, and whether it was linked.
+// What is found of the three keys when the third is linked and so many words are written, and whether it was linked.
 fn stopped_linking(alloc: Global, steps: u64) -> Result<(bool, Three), Fault> {
     let f = with_third(alloc)?;
     let mut stopped = SilentFolder::new(StopFolder::new(f.into_inner(), steps));

@@ -1,4 +1,4 @@
-//! The tests of the crates of entries: records and keys, the LRU list, chains, streams, the audit's reading half and its verdicts, and
+//! The tests of the crates of entries: records and keys, the LRU list, chains, streams, what a consistency check reads and its verdicts, and
 //! what repair makes of a list and of a chain.
 #![tactic(auto)]
 

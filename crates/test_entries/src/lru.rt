@@ -21,7 +21,7 @@ const NODES_AT: u64 = 8192;
 
 const NODE_LEN: usize = 36;
 
-// The moment of a touch, and the four words of the times that it sets.
+// The moment of an access, and the four words of the times that it sets.
 const MOMENT: u64 = 0x0123_4567_89AB_CDEF;
 
 const TIMES: [u32; 4] = [0x89AB_CDEF, 0x0123_4567, 0x89AB_CDEF, 0x0123_4567];
@@ -34,7 +34,7 @@ fn stopping(inner: MemFolder, steps: u64) -> Silent {
     SilentFolder::new(StopFolder::new(inner, steps))
 }
 
-// The folder with what was written so far, where the next so many steps last.
+// The folder with what was written so far, where so many more steps pass.
 fn again(f: Silent, steps: u64) -> Silent {
     stopping(f.into_inner().into_inner(), steps)
 }
@@ -290,7 +290,7 @@ fn walked<F: Folder>(f: &mut F) -> Result<[u32; 3], Fault> {
     Ok(order)
 }
 
-// The walk once the operation in flight is completed, where completing crashes after so many steps first, again and again.
+// The walk after the redo of the operation in flight, where that crashes after so many steps first, again and again.
 fn completed(f: Silent, files: &BlockFiles, stops: &[u64]) -> Result<[u32; 3], Fault> {
     let mut f = f;
     for steps in stops {
@@ -321,7 +321,7 @@ fn touch_stopped_after_each_word_leaves_the_old_order_or_the_new(
     Ok(())
 }
 
-// Whether a change that crashes once its node is named gives this order, where completing it crashes twice before so
+// Whether a change that crashes once its node is named gives this order, where its redo crashes twice before so
 // many steps.
 fn gives_twice(
     alloc: Global,
@@ -368,7 +368,7 @@ fn completing_a_touch_may_be_stopped_twice(rt: HostRuntime) -> Result<(), Fail> 
     Ok(())
 }
 
-// The number of folder calls that complete the operation, and of those that find none then.
+// The number of folder calls of the redo, and of those that find no operation then.
 fn calls_of_completing(f: Silent, files: &BlockFiles) -> Result<[u64; 2], Fault> {
     let mut f = again(f, u64::MAX);
     let start = f.calls();

@@ -352,7 +352,7 @@ fn moment_of(f: &mut Mem, bytes: Vec<u8>) -> Result<Moment, Failed> {
     })
 }
 
-// Whether these marks have all of those at a moment, and no others than those at two, which share the record's block alone.
+// Whether these marks have all of `now`, and no others than those of `before` and `after`, which share the record's block alone.
 fn are_marked(marks: [u32; 3], now: &Moment, before: &Moment, after: &Moment) -> bool {
     for n in 0..3usize {
         let most = before.marks[n] | after.marks[n];

@@ -22,7 +22,7 @@ fn calls_of_a_session(alloc: Global, start: &MemFolder, input: &[u8]) -> Result<
     Ok(if is_whole { f.calls() } else { 0 })
 }
 
-// Whether a session in which a folder call fails, of whose steps so many last, ends with the status 3 and prints a prefix of the
+// Whether a session in which a folder call fails, of whose steps so many are made, ends with the status 3 and prints a prefix of the
 // replies, and a crash outcome of the command in progress is found by the next one.
 fn fails_well(
     alloc: Global,
@@ -42,7 +42,7 @@ fn fails_well(
     Ok(ended && is_stop_outcome(done, listed.written()))
 }
 
-// Of each so many-th folder call of the session the first that may not fail, with none of its steps lasting or one.
+// Of each so many-th folder call of the session the first for which `fails_well` is false, with none of its steps made or with one.
 fn first_that_fails_ill(
     alloc: Global,
     start: &MemFolder,

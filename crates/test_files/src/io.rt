@@ -44,7 +44,7 @@ fn holds<F: Folder>(f: &mut F, bytes: &[u8], external: Option<u64>) -> Result<bo
     Ok(&out[..n] == bytes && f.length(FileId::External(3))? == external)
 }
 
-// A write that fails with so many words lasting: what it answers, and the calls, lacks and steps then.
+// A write that fails with so many words written: what it answers, and the calls, lacks and steps then.
 fn fail_write(
     f: &mut MemFolder,
     words: u64,
@@ -133,7 +133,7 @@ fn has_front(f: &mut MemFolder, count: u64) -> Result<bool, Fault> {
     Ok(words == front)
 }
 
-// A folder whose index has zeros. Of the one inside the call with a number fails, and so many of its words last.
+// A folder whose index has zeros. In the folder inside it the call with a number fails, with so many of its words written.
 fn zeros_failing(
     alloc: Global,
     call: u64,

@@ -234,7 +234,7 @@ pub fn put_index<F: Folder>(
     put_words(f, file, place.wrapping_add(64), &[1])
 }
 
-/// What the audit finds.
+/// What a consistency check finds.
 pub fn audited<F: Folder>(alloc: Global, f: &mut SilentFolder<F>) -> Result<Scan, ScanFault> {
     let files = BlockFiles::load(f)?;
     scan_files(alloc, f, &files)

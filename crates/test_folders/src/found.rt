@@ -79,7 +79,7 @@ fn with_entry<F: Folder>(f: &mut SilentFolder<F>, record: u32, hash: u64) -> Res
     Ok(all)
 }
 
-/// A hash of all that is found in a folder of which the audit found this: of each entry that is kept, in the order of the list, its key
+/// A hash of all that is found in a folder of which a consistency check found this: of each entry that is kept, in the order of the list, its key
 /// and the bytes of its streams.
 pub fn found<F: Folder>(f: &mut SilentFolder<F>, scan: &Scan) -> Result<u64, Fault> {
     let mut all = 0;

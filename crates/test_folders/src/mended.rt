@@ -27,7 +27,7 @@ pub fn changed(alloc: Global, sealed: bool, changes: &[Change], steps: u64) -> R
     Ok(again(f, steps))
 }
 
-/// Audits the folder and repairs it. Gives what the audit found.
+/// Checks the folder and repairs it. Gives what the consistency check found.
 pub fn mend<F: Folder>(alloc: Global, f: &mut SilentFolder<F>) -> Result<Scan, ScanFault> {
     let mut files = BlockFiles::load(f)?;
     let scan = scan_files(alloc, f, &files)?;

@@ -1,11 +1,11 @@
-// Folders of the machine, each of a test's own, and what is written there and read.
+// Folders of the file system, each of a test's own, and what is written there and read.
 use blk_host::{Access, Held, NotHeld, RealFolder, SystemClock};
 use blk_io::{Clock, Failed, FileId, Folder};
 use std::io::ErrorKind;
 use std::time::Duration;
 use std::{env, fs, io};
 
-/// A folder of this machine.
+/// A folder of the file system.
 pub type Machine = RealFolder<HostRuntime>;
 
 /// The least external file.

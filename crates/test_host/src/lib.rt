@@ -1,4 +1,4 @@
-//! The tests of the real objects, on the machine.
+//! The tests of the real objects, on the operating system.
 #![tactic(auto)]
 
 #[cfg(test)]

@@ -1,11 +1,11 @@
-// The streams of the machine, and its clock.
+// The streams of the operating system, and its clock.
 ghost use Rattle.std.specs.Prelude.{◌≤◌, IfOk};
 
 use blk_host::{Patient, StdSink, StdSource, SystemClock};
 use blk_io::{Clock, Failed, Sink, Source};
 use std::io::{self, ErrorKind, Read, Write};
 
-// A stream of the machine that gives and takes two bytes in a call, and has an error of a kind in the third call.
+// A stream of the operating system that gives and takes two bytes in a call, and has an error of a kind in the third call.
 #[derive(Drop)]
 struct Halting {
     calls: u64,

@@ -71,7 +71,7 @@ const COMMANDS: [Command<'static>; 16] = [
     Command::List,
 ];
 
-// An object with two parts that is closed, and one that is made where there is room for three items: the first goes with its parts, which
+// An object with two parts that is closed, and one that is made where there is space for three items: the first goes with its parts, which
 // the read of both has put in front of it.
 const EVICTING: [Command<'static>; 6] = [
     Command::Create {
@@ -124,7 +124,7 @@ fn stopped(f: &MemFolder, steps: u64) -> Result<MemFolder, NoMemory> {
     }
 }
 
-// Audits a folder. Gives what it holds.
+// Checks a folder. Gives what it holds.
 fn held(alloc: Global, f: &mut SilentFolder<MemFolder>) -> Result<Held, ScanFault> {
     let scan = audited(alloc, f)?;
     Ok((scan.items(), scan.bytes(), found(f, &scan)?))

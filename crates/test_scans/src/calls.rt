@@ -1,4 +1,4 @@
-// The folder calls of an audit of many entries, and of a repair.
+// The folder calls of a consistency check of many entries, and of a repair.
 use blk_audit::ScanFault;
 use blk_disk::BlockFiles;
 use blk_io::FileId;
@@ -11,7 +11,7 @@ use test_folders::folders::{Mem, add, put_words};
 use test_folders::many::{ENTRIES, OTHERS, Sort, many, plain};
 use test_folders::mended::mend;
 
-// How many of so many entries are kept, and all the folder calls of the audit.
+// How many of so many entries are kept, and all the folder calls of the consistency check.
 fn counts(alloc: Global, sort: Sort, entries: u32) -> Result<(u64, u64), Fail> {
     let mut f = many(alloc, sort, entries)?;
     let start = f.calls();
@@ -64,7 +64,7 @@ const ALIKE: [&[u8]; 8] = [
     b"lkpSrZcHyr25Zbp0th6GWwaw",
 ];
 
-// How many entries with these keys are kept, and the folder calls of the audit.
+// How many entries with these keys are kept, and the folder calls of the consistency check.
 fn counts_alike(alloc: Global) -> Result<(u64, u64), Fail> {
     let mut f = many(alloc, Sort::Plain, 0)?;
     let mut i: u32 = 0;

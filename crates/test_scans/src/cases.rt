@@ -1,4 +1,4 @@
-// Changes to the folder of all kinds of entries, with what the audit finds then.
+// Changes to the folder of all kinds of entries, with what a consistency check finds then.
 use blk_io::FileId;
 use test_folders::folders::Change::{Bucket, Gone, Index, Length, Word};
 use test_folders::folders::{

@@ -1,4 +1,4 @@
-//! The tests of whole folders: the audit, the repair, what is printed of them, and objects that are made and removed.
+//! The tests of whole folders: the consistency check, the repair, what is printed of them, and objects that are made and removed.
 #![tactic(auto)]
 
 #[cfg(test)]

@@ -1,4 +1,4 @@
-// The audit of a folder of all kinds of entries, as it is and with changes.
+// The consistency check of a folder of all kinds of entries, as it is and with changes.
 use crate::cases::{Case, TABLES};
 use blk_io::{MemFolder, SilentFolder};
 use blk_scan::{Scan, scan_folder};

@@ -31,12 +31,12 @@ const NEXT_STEPS: u64 = 23;
 // found of them, their keys and their data in the order of the list.
 type Held = (u64, u64, u64);
 
-// What a folder holds of which the audit found this.
+// What a folder holds of which a consistency check found this.
 fn held(f: &mut Mem, scan: &Scan) -> Result<Held, ScanFault> {
     Ok((scan.items(), scan.bytes(), found(f, scan)?))
 }
 
-// Audits the folder. Gives what it holds.
+// Checks the folder. Gives what it holds.
 fn held_now(alloc: Global, f: &mut Mem) -> Result<Held, ScanFault> {
     let scan = audited(alloc, f)?;
     held(f, &scan)
@@ -205,7 +205,7 @@ fn repair_deletes_what_nothing_names_and_ends_what_does_not_count(
     Ok(())
 }
 
-// What a repair answers where some changes were made after the audit, or where the folder fails after so many steps; or none,
+// What a repair answers where some changes were made after the consistency check, or where the folder fails after so many steps; or none,
 // where the next one doesn't end well with what was held.
 fn answer_of(alloc: Global, changes: &[Change], steps: u64) -> Result<Option<Fault>, Fail> {
     let mut f = changed(alloc, false, &[Word(IEV, NEXT, NAB)], u64::MAX)?;

@@ -79,7 +79,7 @@ impl Session {
 /// in the order of the list.
 pub type Held = (u64, u64, u64);
 
-/// Audits a folder. Gives what it holds.
+/// Checks a folder. Gives what it holds.
 pub fn held(alloc: Global, f: Mem) -> Result<Held, ScanFault> {
     let mut f = again(f, u64::MAX);
     let scan = audited(alloc, &mut f)?;

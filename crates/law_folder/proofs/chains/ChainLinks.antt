@@ -29,7 +29,7 @@ pub others-stay : OtherChainsStay
 others-stay v b other word apart =
     chain_from-table v (put v.table b word) other (2 ^ 24) [] (put v.table b word other) ∙ ap (chain_from v other (2 ^ 24) []) (at-elsewhere v.table b word other apart)
 
--- ---- records go out
+-- ---- records are unlinked
 
 pub first-leaves : FirstRecordsLeaveChains
 first-leaves old new b c words same table is = record {

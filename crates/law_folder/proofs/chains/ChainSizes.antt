@@ -12,7 +12,7 @@ use Rattle.spec_folder.specs.Chains.{file_and_block}
 use Rattle.law_folder.specs.ListLaws.{WholeChainsAreShort}
 use Rattle.law_folder.proofs.walks.Shown.{is_among-filter, Distinct-filter}
 
--- a list without a number that it hasn't
+-- a list without a number that it hasn't is the same list
 pub unchanged : (n : ℕ) (xs : List ℕ) → is_among xs n ≡ false → filter (λ x. not (x == n)) xs ≡ xs
 unchanged n [] e = refl
 unchanged n (x ∷ xs) e = let p = or_parts (x == n) (is_among xs n) e in rw p.0 (ap (λ (ys : List ℕ). x ∷ ys) (unchanged n xs p.1))

@@ -63,7 +63,7 @@ pub same_under : {A : Type 0} (b : Bool) (x y z : A) → (b ≡ true → x ≡ y
 same_under true x y z same = same refl
 same_under false x y z same = refl
 
--- the bytes of the blocks of a type
+-- the bytes of the blocks of a kind
 pub room_is : (w type : ℕ) → kind_of w ≡ type → byte_size w ≡ block_count w * block_size type
 unfolding byte_size
 room_is w type e = ap (λ (t : ℕ). block_count w * block_size t) e

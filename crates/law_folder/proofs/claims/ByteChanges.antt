@@ -110,7 +110,7 @@ record_stands image w e is = ⊎_elim
     (λ (s : stands_as image blocks_256 w ≡ false). let none : ◌≡◌ {A = Option RecordFields} None (Some e) = rw s at is in absurd (cc))
     (cases_Bool (stands_as image blocks_256 w))
 
--- a file is linked as the type of a valid address of blocks
+-- a file is linked as one of the kind of a valid address of blocks
 pub linked-some : (o : Option ℕ) (kind : ℕ) → is_linked_as o kind ≡ true → o ≡ Some kind
 linked-some None kind e = absurd (let z : false ≡ true = e in cc)
 linked-some (Some k) kind e = ap Some (eqb-true k kind e)

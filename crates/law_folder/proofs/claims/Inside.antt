@@ -28,7 +28,7 @@ unfoldable pub in_file : ℕ → Claim → Bool
 in_file file (BlockOf other b) = file == other
 in_file file (ExternalOf n) = false
 
--- words of another type than blocks, and of another file, use no block of it
+-- words of another kind than blocks, and of another file, use no block of it
 blocks-elsewhere : (file other start n b : ℕ) → other ≢ file → has_claim (map (λ x. BlockOf other x) (range_with_len start n)) (BlockOf file b) ≡ false
 blocks-elsewhere file other start zero b apart = no-claim (BlockOf file b)
 blocks-elsewhere file other start (suc n) b apart =

@@ -84,7 +84,7 @@ module _ (m : State) (handle : ℕ) (key : List ℕ) where
       subst (λ (n : State). StopOutcome m moment (to_create handle key) n (model.rest m)) (sym ends)
       (record { step_count = 0; within = omega arith; with_turned = false; picked_rows = pick-created })
 
--- what is written loads in each store that shows the same
+-- what is written loads in each store view that shows the same
 written-stays : WrittenEntriesStay
 written-stays v u m y key l w s same = record {
   represents = w.represents;

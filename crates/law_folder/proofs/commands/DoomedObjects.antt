@@ -223,7 +223,7 @@ module _ (touched : Claim → Bool) (v u : View) (m : State) (y : Layout) (r : R
   idle : u.list.transaction ≡ 0
   idle = sym same.links.transaction ∙ r.idle
 
-  -- what is kept at a moment of this
+  -- what is kept meanwhile
   pub aside-rest : IsValidState m → map row_of_loaded (kept_among u.store held_rule (walk (completed_list u.list))) ≡ model.rest m
   aside-rest valid = ap (λ (ws : List ℕ). map row_of_loaded (kept_among u.store held_rule ws)) (walk-idle u.list idle ∙ walk_list u.list (order m y) still-listed) ∙
       listed-rest (λ w. y.place_of_doomed number == w) u.store m y but valid r.list.distinct (λ i listed. apart-item m y lies number o here gone i listed) where

@@ -35,7 +35,7 @@ in-times i (j ∷ items) e =
     (λ (h : same_item i j ≡ false). let c : times i (j ∷ items) ≡ 0 + times i items = t ∙ ap (λ (b : Bool). cond b 1 0 + times i items) h in let more = in-times i items (rw h at e) in omega (arith, more))
     (cases_Bool (same_item i j))
 
--- a store that shows the same shows the layout
+-- a store view that shows the same shows the layout
 pub shows-same : (v s : StoreView) (y : Layout) → Shows v y → ShowsTheSame v s → Shows s y
 shows-same v s y shows same = record {
   no_record = sym (same.store.entry 0 (clear-zero (λ c. false))) ∙ shows.no_record;
@@ -83,7 +83,7 @@ touched-items-end view state layout r valid item there store same = (
   touched-valid view state layout r valid item there,
 )
 
--- an Open, in a store that shows the same
+-- an Open, in a store view that shows the same
 pub opens-each : OpensAtEachWrite
 opens-each view state layout r valid moment handle key passed store same count =
     open-moments (record view { store = store }) state layout (same-represents view state layout r store same) valid moment handle key passed count

@@ -142,7 +142,7 @@ crossed_unlisted : (unlisted_in crossed 0x3EBF ≡ []) × (unlisted_in crossed 0
 unfolding crossed in_three is_unlisted walk walk_from chain_from
 crossed_unlisted = (refl, refl, refl)
 
--- a list in a ring is walked once around
+-- a list that is a loop is walked once around
 ring : View
 ring = shown 0x90000000 0 ((0x90000000, node 0x90000001 0x90000000 0) ∷ (0x90000001, node 0x90000000 0x90000000 0) ∷ []) []
 
@@ -211,7 +211,7 @@ not_counted = refl
 
 -- Two records.
 
--- with one key: the one nearer the front is kept, and the other has the reason name
+-- with one key: the one nearer the front is kept, and the other has the reason `Name`
 twins : View
 twins = shown 0x90000000 0xA0010000
     ((0x90000000, node 0x90000001 0x90000000 0xA0010000) ∷ (0x90000001, node 0x90000001 0x90000000 0xA0010001) ∷ [])
@@ -225,7 +225,7 @@ twins_dropped : dropped_nodes twins ≡ (0x90000001, reason.Name) ∷ []
 unfolding twins dropped_among verdicts load load_record load_key admit is_key_length stored_key stored_stream stored_streams role_of shares_key is_orphan record_claims all_claims claims_of has_claim overlap repeats kind_of block_count file_selector first_block external_number entry_blocks walk walk_from chain_from hash mixed of_bytes of_one
 twins_dropped = refl
 
--- that use one block, by a stream: the one nearer the front is kept, and the other has the reason claimed, which comes before name
+-- that use one block, by a stream: the one nearer the front is kept, and the other has the reason `Claimed`, which comes before `Name`
 with_stream : ℕ → ℕ → Linked
 with_stream chain_next w = record { chain_next = chain_next; fields = record (plain_core w) { data_size = 5 ∷ 0 ∷ 0 ∷ 0 ∷ []; data_addr = 0xA0010008 ∷ 0 ∷ 0 ∷ 0 ∷ [] } }
 

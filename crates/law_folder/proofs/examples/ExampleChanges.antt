@@ -150,7 +150,7 @@ pub written-is_represented : Represents (with_data (Some (codes "yyy"))) written
 written-is_represented =
     replaced touched (view 5) (with_data (Some (codes "yyy"))) (state false) (layout 5) (represented 5) (Some written_object ∷ []) (main (codes "a")) (loaded 5) now owners_now (same-but (Some (codes "yyy"))) one-changed refl refl is-change is-replaced
 
--- at a moment when the record names the new place and the data isn't there yet, the durable contents are kept
+-- while the record names the new place and the data isn't there yet, the durable contents are kept
 pub torn-is_at_rest : map volume.row_of_loaded (kept_by held_rule (volume.completed (with_data None))) ≡ rest (state false)
 torn-is_at_rest =
     moment-rest touched (view 5) (with_data None) (state false) (layout 5) (represented 5) (state_is_valid false) 0 (object false) (main (codes "a")) refl refl refl (loaded 5) refl (same-but None)

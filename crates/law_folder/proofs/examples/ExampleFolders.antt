@@ -100,7 +100,7 @@ whole-only n small = there n ∙ sym (linked-below n) where
   there (suc (suc (suc zero))) = refl
   there (suc (suc (suc (suc n)))) = grind (arith, nat_tests)
 
--- a linked file is one of its type
+-- a linked file is one of its kind
 pub its-type : (n kind : ℕ) → linked_as whole_folder n ≡ Some kind → n + 1 ≡ kind
 its-type n kind is = go (nat_lt n 4) (sym (whole-linked n) ∙ is) where
   go : (t : Bool) → (if t then Some (n + 1) else None) ≡ Some kind → n + 1 ≡ kind

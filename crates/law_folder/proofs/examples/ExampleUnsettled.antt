@@ -1,4 +1,4 @@
--- The law on any moment at a part: a sparse object is dirty, and the record of its part names data at a new place, which is there or isn't.
+-- The law on the midst of a change, at a part: a sparse object is dirty, and the record of its part names data at a new place, which is there or isn't.
 use Rattle.std.proofs.Common.{◌≡◌, ℕ, zero, suc, List, [], ◌∷◌, map, refl, ap, sym, ◌∙◌, subst, arith, Bool, true, false, Option, Some, None, Ok}
 use Rattle.std.specs.Prelude.{if◌then◌else◌, ◌==◌, ◌&&◌, codes, replicate, IfSome, IsSome}
 use Rattle.std.proofs.lemmas.Bool.{eq-eqb}
@@ -167,7 +167,7 @@ keeps-name bytes was now old new =
     let s : part_core ≡ was = cc in let t : written_core ≡ now = cc in
     (ap (λ (c : RecordFields). c.flags) (sym t) ∙ ap (λ (c : RecordFields). c.flags) s, ap (stored_key (with_data bytes).store 0xA0010001) (sym t) ∙ ap (stored_key dirty_view.store 0xA0010001) s)
 
--- where the data is there, the part's record loads at this moment
+-- where the data is there, the part's record loads
 torn-loads : load (with_data (Some (codes "yyy"))).store held_rule part_node ≡ Ok (record the_part { streams = [] ∷ codes "yyy" ∷ part_bytes ∷ []; others = 0 ∷ 0 ∷ 0xA001000C ∷ 0xA0010008 ∷ 0 ∷ [] })
 unfolding put load load_record load_key is_key_length stored_key stored_stream stored_streams role_of part_role is_covered read_part_index read_name split_last child_name digits words_at block_count entry_blocks chain_from hash mixed of_bytes of_four of_three
 torn-loads = refl

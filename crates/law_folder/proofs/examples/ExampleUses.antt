@@ -71,7 +71,7 @@ use Rattle.law_folder.proofs.states.TidyOrder.{tidy-ordered, tidy-stands}
 use Rattle.law_folder.proofs.commands.Touches.{touched-items, touched-items-end, opens-each, opens-end}
 use Rattle.law_folder.proofs.examples.WholeFolder.{whole_folder, whole-is_represented, whole-is_well_formed, whole-linked}
 
--- A store that shows the same by other words: its operation word and its links of what isn't there may differ; here it is itself.
+-- A store view that shows the same by other words: its operation word and its links of what isn't there may differ; here it is itself.
 
 itself : (store : StoreView) → ShowsTheSame store store
 itself store = record {

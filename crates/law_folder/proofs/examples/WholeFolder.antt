@@ -157,7 +157,7 @@ whole-links : (linked whole_folder 1 ≡ 0 ∷ []) × (linked whole_folder 2 ≡
 unfolding whole_folder linked files_along next_file_in zeros with_word spliced block_size
 whole-links = (refl, refl, refl, refl)
 
--- data_0 to data_3 are linked, each as its type
+-- data_0 to data_3 are linked, each as one of its kind
 pub whole-linked : (n : ℕ) → linked_as whole_folder n ≡ (if nat_lt n 4 then Some (n + 1) else None)
 unfolding kind_among
 whole-linked n = let l = whole-links in rw (l.0, l.1, l.2, l.3) (go n) where

@@ -131,7 +131,7 @@ role-part e key ss name index ok = go (e.flags == 1) (e.flags == 2) ok where
       named other index' c = cc
   go false false h = cc
 
--- the signature of a part's object is the one in its name
+-- the generation of a part's object is the one in its name
 parent-signature : (name : Name) (p : Loaded) → is_parent_of name p ≡ true → (index : ParentIndex) × ((p.role ≡ IsParent index) × (index.signature ≡ name.signature))
 parent-signature name p is = go p.role refl is where
   go : (r : Role) → p.role ≡ r → is_parent_role name p.key r ≡ true → (index : ParentIndex) × ((p.role ≡ IsParent index) × (index.signature ≡ name.signature))

@@ -18,7 +18,7 @@ use Rattle.law_folder.proofs.claims.Inside.{IsElsewhere, elsewhere-clear, record
 pub standing-parts : (image : Image) (kind u : ℕ) → stands_as image kind u ≡ true → (stands_in image u ≡ true) × (kind_of u ≡ kind)
 standing-parts image kind u e = let p = and_parts (stands_in image u) (kind_of u == kind) e in (p.0, eqb-true (kind_of u) kind p.1)
 
--- valid words of two types are of two files
+-- valid words of two kinds are of two files
 pub elsewhere-by : (image : Image) (u w : ℕ) → stands_in image u ≡ true → stands_in image w ≡ true → kind_of w ≢ external → kind_of u ≢ kind_of w → IsElsewhere (file_selector w) u
 elsewhere-by image u w up st block_kind apart = ⊎_elim
     (λ (e : (kind_of u == external) ≡ true). inl (eqb-true (kind_of u) external e))
@@ -60,7 +60,7 @@ module _ (from image : Image) (w : ℕ) (st : stands_in from w ≡ true) (begins
   pub stands_as-all : (kind u : ℕ) → stands_as image kind u ≡ stands_as from kind u
   stands_as-all kind u = ap (λ (b : Bool). b && (kind_of u == kind)) ((record-changes from image w st begins same).stands u)
 
-  -- words of a type that is not the record's
+  -- words of a kind that is not the record's
   away : (kind u : ℕ) → stands_as from kind u ≡ true → kind ≢ kind_of w → IsElsewhere (file_selector w) u
   away kind u e apart = let p = standing-parts from kind u e in elsewhere-by from u w p.0 st (record-blocky w begins) (λ s. apart (sym p.1 ∙ s))
 

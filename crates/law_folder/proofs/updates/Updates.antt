@@ -1,4 +1,4 @@
--- The record of an update at one of its moments: its checksum is right or absent, and its bytes before the checksum have a prefix of the changes.
+-- A record in the midst of an update: its checksum is right or absent, and its bytes before the checksum have a prefix of the changes.
 use Rattle.std.proofs.Common.{◌≡◌, ℕ, ◌+◌, ◌≤◌, true, List, length, take, refl, sym, ◌∙◌, ap, subst, arith}
 use Rattle.spec_image.specs.Bytes.{content, word_at}
 use Rattle.spec_image.specs.Image.{Block, Image, AreBytes, byte}

@@ -16,7 +16,7 @@ update_sealed-requires-clause-changes g c = mark_changes c.args.node c.args.mark
 small : (g : given.Over) (c : After-update_sealed g) → c.args.mark < 2 ^ 32
 small g c = omega (arith, c.ranges.mark.fits)
 
--- the moments of the update
+-- what holds at each word of the update
 moment_of : (g : given.Over) (c : After-update_sealed g) (from : Image) → (g.F.Folder.told c.args.folder.now).files ≡ Some from → RecordChecks c.args.node from → (image : Image) → IsMidUpdate from c.args.node (dirty_change c.args.mark) image → SetsDirtyInProgress from c.args.node c.args.mark image
 moment_of g c from there good image =
     marking_at from image c.args.node c.args.mark c.requires.kind (small g c) c.args.files.now (c.requires.agrees from there) c.requires.stands (subst (λ (v : ℕ). is_address v ≡ true) c.word-word.ensures.word c.word-word.ensures.address)

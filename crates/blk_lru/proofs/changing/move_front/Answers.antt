@@ -59,7 +59,7 @@ other : (g : given.Over) (c : goal.After-move_behind g) → ForSome (g.F.Folder.
 other g c from there =
     ap (λ (w : ℕ). w == c.args.node) (sym (c.in_ok-head.ensures.word from there)) ∙ apart c.args.files.now c.args.node c.requires.stands c.in_ok-head.head (sym c.eq.ensures ∙ c.if-eq.false)
 
--- what is written is what a touch writes
+-- what is written is what an access writes
 touching : (g : given.Over) (c : goal.After-move_behind g) (P : Image → List ListWrite → Type 0) → ForSome (g.F.Folder.told c.first.new.f).files (λ from. P from (writes_of 3 c.args.node (list_of from))) → ForSome (g.F.Folder.told c.args.folder.now).files (λ from. P from (touch_writes c.args.node (list_of from)))
 touching g c P holds from there = subst (P from) (some_touch (list_of from) c.args.node (other g c from there)) (holds from (ap (λ (t : Told). t.files) c.in_ok-head.ensures.reads.stays ∙ there))
 

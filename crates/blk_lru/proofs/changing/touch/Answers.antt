@@ -28,7 +28,7 @@ use Rattle.blk_lru.proofs.Results.{on_ok_both}
 use Rattle.blk_lru.proofs.changing.touch.Given as given
 use Rattle.blk_lru.proofs.changing.touch.Goals as goal
 
--- what a part of a touch passes
+-- what a prefix of the steps of an access passes
 passes : (old now : Told) (from : Image) (files : BlockFiles) → old.files ≡ Some from → IsReady files from → (node moment : ℕ) → AppliesPrefix old now (steps_of_touch node moment from) → (prefix suffix : List ℕ) → HasListAtRest (prefix ++ node ∷ suffix) from
     → Passes old now (IsMidTouch files node (touch_writes node (list_of from)) (prefix ++ node ∷ suffix) (node ∷ prefix ++ suffix) from)
 passes old now from files there ready node moment part prefix suffix rest =
@@ -89,7 +89,7 @@ returns-clause-touched g c =
     (touches-rest from c.args.node c.args.moment prefix suffix (ready_writable (ready_here g c from there)) rest))
     (returns-clause-steps g c)
 
--- what holds after all of a touch that could be made
+-- what holds after all steps of an access that can be made
 made : (g : given.Over) (c : goal.After-set_times g) (P : Image → Image → Type 0) → ((from : Image) → IsWritable from → CanBeTouched from c.args.node → P from (after (steps_of_touch c.args.node c.args.moment from) from))
     → OnOk c.set_times.result (ForSome (g.F.Folder.told c.args.f.now).files (λ from. ForSome (g.F.Folder.told c.set_times.new.folder).files (P from)))
 made g c P holds =

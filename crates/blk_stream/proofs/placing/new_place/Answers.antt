@@ -83,7 +83,7 @@ returns-clause-untold g c can =
     let blocky = of_blocks (kind_number c.kind_for-kind.result) c.args.size c.is_external.result c.kind_for-kind.ensures c.is_external.ensures c.if-is_external.false in
     c.allocate.ensures.untold (λ image there. subst (λ (k : ℕ). AreCounted c.args.files.now k image) (sym c.kind_for-kind.ensures) ((can image there).counted blocky))
 
--- What is done, and on its way.
+-- What is done, and what is under way.
 
 pub returns-in_err-addr-clause-stages : goal.returns-in_err-addr-clause-stages
 returns-in_err-addr-clause-stages g c from there can =
