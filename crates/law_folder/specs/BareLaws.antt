@@ -1,13 +1,13 @@
 -- The laws of folders in which nothing is kept, such as one that was just made.
-use Rattle.std.specs.Prelude.{◌≡◌, ℕ, ◌^◌, ◌<◌, ◌≤◌, [], true, false, is_some}
+use Rattle.std.specs.Prelude.{◌≡◌, ℕ, ◌%◌, ◌^◌, ◌<◌, ◌≤◌, [], true, false, is_some}
 use Rattle.spec_image.specs.Image.{Index, Block, External, Image, has_file, length_of, byte}
 use Rattle.spec_image.specs.Footprint.{SameOutside, one_word}
 use Rattle.blk_model.specs.State.{Bounds}
 use Rattle.blk_model.specs.Holding.{open_state}
 use Rattle.spec_format.specs.Address.{header_size}
-use Rattle.spec_format.specs.Headers.{count_of, counting, table_length, bucket_of, allocations_of, empty_of, updating_of}
+use Rattle.spec_format.specs.Headers.{count_of, counted_places, counting, header_length, table_length, bucket_of, allocations_of, empty_of, updating_of}
 use Rattle.spec_format.specs.NewFolder.{HoldsNew, IsMade, index_without_magic}
-use Rattle.spec_format.specs.BlockFiles.{linked_as, max_entries_in, most_blocks, HasSoundHeaders, IsWellFormed}
+use Rattle.spec_format.specs.BlockFiles.{is_among, linked_as, max_entries_in, most_blocks, HasSoundHeaders, IsWellFormed}
 use Rattle.spec_format.specs.Maps.{is_block_marked}
 use Rattle.spec_folder.specs.View.{list_of, view_of}
 use Rattle.spec_folder.specs.Found.{found}
@@ -15,6 +15,7 @@ use Rattle.spec_folder.specs.Layout.{Represents}
 use Rattle.spec_folder.specs.Emptiness.{no_view, no_layout}
 use Rattle.spec_folder.specs.Sound.{OnlyLinked, IsSound}
 use Rattle.spec_folder.specs.StandsFor.{StandsFor}
+use Rattle.law_folder.specs.IndexWrites.{shown_words, sound_words}
 
 -- the view of a new folder represents the empty state
 abbrev pub NothingRepresentsTheEmptyState : Type 0
@@ -70,9 +71,11 @@ NewFoldersHaveNoEntries = (moment : ℕ) (image : Image) → IsMade moment image
 abbrev pub NewFoldersAreWellFormed : Type 0
 NewFoldersAreWellFormed = (moment : ℕ) (image : Image) → IsMade moment image → IsWellFormed image
 
--- a write of the magic word leaves an empty cache one
-abbrev pub MagicWordsAddNoEntries : Type 0
-MagicWordsAddNoEntries = (from image : Image) → SameOutside (one_word Index 0) from image → HasNoEntries from → HasNoEntries image
+-- a write of a word of the index's header that is neither shown nor counted and that sound headers don't need, as the magic word, the number of the session
+-- and the crash word, leaves an empty cache one
+abbrev pub OtherWordsAddNoEntries : Type 0
+OtherWordsAddNoEntries = (from image : Image) (at : ℕ) → at % 4 ≡ 0 → at < header_length → is_among shown_words at ≡ false → is_among counted_places at ≡ false → is_among sound_words at ≡ false
+    → SameOutside (one_word Index at) from image → HasNoEntries from → HasNoEntries image
 
 -- a new folder is an empty cache before its magic word is written, too
 abbrev pub UninitializedFoldersHaveNoEntries : Type 0

@@ -53,17 +53,23 @@ abbrev pub BucketsAreWritten : Type 0
 BucketsAreWritten = (from image : Image) (bucket x : ℕ) → IsIndexWord (place_of_bucket bucket) x from image
     → (list_of image ≡ list_of from) × (store_of image ≡ record (store_of from) { table = put (store_of from).table bucket x })
 
+-- the places of the index's words that sound headers need: all that a check reads but the magic word
+abbrev pub sound_words : List ℕ
+sound_words = 4 ∷ 24 ∷ 28 ∷ 36 ∷ zero_places
+
 -- the places of the index's words that a check reads
 abbrev pub checked_words : List ℕ
-checked_words = 0 ∷ 4 ∷ 24 ∷ 28 ∷ 36 ∷ zero_places
+checked_words = 0 ∷ sound_words
 
 -- the write of a word of the index that no check reads keeps the headers
 abbrev pub OtherWordsAreNotChecked : Type 0
 OtherWordsAreNotChecked = (from image : Image) (at : ℕ) → at % 4 ≡ 0 → is_among checked_words at ≡ false → SameOutside (one_word Index at) from image → KeepsHeaders from image
 
--- the write of the magic word, whichever it was and is, leaves sound headers sound, and what recovery keeps; what is shown stays by `OtherWordsAreNotShown`
-abbrev pub MagicWordsAreNotChecked : Type 0
-MagicWordsAreNotChecked = (from image : Image) → SameOutside (one_word Index 0) from image → (HasSoundHeaders from → HasSoundHeaders image) × (kept image ≡ kept from)
+-- the write of a word of the index's header that is not shown and that sound headers don't need, as the magic word, the number of the session and the crash
+-- word, leaves sound headers sound, and what recovery keeps
+abbrev pub SoundHeadersStaySound : Type 0
+SoundHeadersStaySound = (from image : Image) (at : ℕ) → at % 4 ≡ 0 → at < header_length → is_among shown_words at ≡ false → is_among sound_words at ≡ false
+    → SameOutside (one_word Index at) from image → (HasSoundHeaders from → HasSoundHeaders image) × (kept image ≡ kept from)
 
 -- the write of the version that is made now keeps the headers, whichever of the two it was
 abbrev pub VersionsMayBeRaised : Type 0

@@ -5,7 +5,7 @@
 #![tactic(auto)]
 
 ghost use Rattle.law_folder.specs.AllocationLaws.{SoundFilesAreAllocated, StoodForFilesAreAllocated};
-ghost use Rattle.law_folder.specs.BareLaws.{NothingRepresentsTheEmptyState, FoldersWithoutEntriesHoldNothing, FoldersWithoutEntriesAreSound, FoldersWithoutEntriesRepresentTheEmptyState, FoldersWithoutEntriesStandForTheEmptyState, NewFoldersHaveNoEntries, NewFoldersAreWellFormed, MagicWordsAddNoEntries, UninitializedFoldersHaveNoEntries};
+ghost use Rattle.law_folder.specs.BareLaws.{NothingRepresentsTheEmptyState, FoldersWithoutEntriesHoldNothing, FoldersWithoutEntriesAreSound, FoldersWithoutEntriesRepresentTheEmptyState, FoldersWithoutEntriesStandForTheEmptyState, NewFoldersHaveNoEntries, NewFoldersAreWellFormed, OtherWordsAddNoEntries, UninitializedFoldersHaveNoEntries};
 ghost use Rattle.law_folder.specs.ByteLaws.{BlocksStandByTheirLast, CoveredChangesStayInside, BlocksAreCovered, ExternalFilesAreCovered, HeadersNeedNoCover, HiddenWordsNeedNoCover, CoversOfLess, MoreCovers, CoversOfEither, AgreeingImagesShowTheSame, CoveredChangesAgree, GrowthIsPastTheBlocks, SameLinksLinkTheSame, AgreementGoesOn, AgreementButMore, LongerFilesHaveGrown, GrowthIsOfAbsentBlocks, ChangedHeadersHaveGrown, GrowthKeepsStates, UnlinkedFilesMayGo};
 ghost use Rattle.law_folder.specs.CommandLaws.{UnsettledObjectsMayChange, UnsettledChangesAreAtRest, RemovalsKeepTheOthers, LessIsPlaced, LessIsRepresented, DirtyWordsSettle, WrittenDirtyWordsSettle, ChangedDoomedObjectsArePlaced, ChangedDoomedObjectsAreRepresented, DoomedChangesAreAtRest, GoneDoomedObjectsAreRepresented, DoomedDirtyWordsSettle, WrittenDoomedDirtyWordsSettle, RepresentedHoldExcept, MoreMayBeLeftOut, OthersHoldOutside, OthersHoldUnlinked, ChainedRecordsAreOnlyRecords, RecordsStayOutside, RecordsStayUnlinked, RecordsOfAnotherStateLoad, ListedItemsAreAtRest, DoomsKeepTheOthers, DoomsAtEachWrite, DoomedPartsAtEachWrite, DoomedIsPlaced, DoomedIsRepresented, HandlesAreNotShown, RestBeforeTurning, RestAfterTurning, OpensAtEachWrite, OpensEnd, WrittenEntriesStay, CreatesBeforeTheInsert, CreatesAtEachWrite, CreatesEnd, CreatesAfterTheLink, CreatesEndAtTheStep, CreatesLeaveTheRest, CreatesMayLeaveWhatWas};
 ghost use Rattle.law_folder.specs.KeptLaws.{KeptAreTheGiven, NoneOfTheGivenIsDropped, KeptAreShown, KeptAloneAreKept, LeavingOutKeepsTheSame, SameKeyIsOneChain, OnlyCandidatesAreKept, SameCandidatesAreHeldAlike, SameCandidatesHoldTheSame};
@@ -141,11 +141,12 @@ pub fn folders_without_entries_are_sound()
     ensures stands { FoldersWithoutEntriesStandForTheEmptyState }
 {}
 
-/// A new folder is an empty cache (`HasNoEntries`) and well formed. It is an empty cache before its magic word is written, too.
+/// A new folder is an empty cache (`HasNoEntries`) and well formed. It is an empty cache before its magic word is written, too, and stays one where that word,
+/// the number of the session and the crash word change.
 pub fn new_folders_have_no_entries()
     ensures none { NewFoldersHaveNoEntries }
     ensures formed { NewFoldersAreWellFormed }
-    ensures magic { MagicWordsAddNoEntries }
+    ensures words { OtherWordsAddNoEntries }
     ensures uninitialized { UninitializedFoldersHaveNoEntries }
 {}
 

@@ -2,7 +2,7 @@
 //
 // They lead from the bytes that a write changes to what is shown: the LRU list, what each node says, the table, the chains, the records and data.
 ghost use Rattle.law_folder.specs.BlockWrites.{WritesStayInside, UpdatesStayInside, ListChangesBegin, ListChangesAdd};
-ghost use Rattle.law_folder.specs.IndexWrites.{HeadsAreWritten, TailsAreWritten, TransactionsAreWritten, OperationsAreWritten, OtherWordsAreNotShown, BucketsAreWritten, MagicWordsAreNotChecked, OtherWordsAreNotChecked, VersionsMayBeRaised, OtherBytesAreNotCounted, BucketsAreNotChecked, IndexWordsStandApart};
+ghost use Rattle.law_folder.specs.IndexWrites.{HeadsAreWritten, TailsAreWritten, TransactionsAreWritten, OperationsAreWritten, OtherWordsAreNotShown, BucketsAreWritten, SoundHeadersStaySound, OtherWordsAreNotChecked, VersionsMayBeRaised, OtherBytesAreNotCounted, BucketsAreNotChecked, IndexWordsStandApart};
 ghost use Rattle.law_folder.specs.NodeUpdates.{NextsAreWritten, PrevsAreWritten, TimesAreNotShown, ContentsAreWritten, DirtyWordsAreWritten};
 ghost use Rattle.law_folder.specs.RecordUpdates.{ChainNextsAreWritten, FieldsAreWritten};
 
@@ -46,7 +46,7 @@ pub fn index_words_are_written()
     ensures hidden { OtherWordsAreNotShown }
     ensures buckets { BucketsAreWritten }
     ensures checked { OtherWordsAreNotChecked }
-    ensures magic { MagicWordsAreNotChecked }
+    ensures sound { SoundHeadersStaySound }
     ensures raised { VersionsMayBeRaised }
     ensures counted { OtherBytesAreNotCounted }
     ensures table { BucketsAreNotChecked }

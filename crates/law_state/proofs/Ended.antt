@@ -10,7 +10,7 @@ use Rattle.spec_folder.specs.View.{view_of}
 use Rattle.law_folder.proofs.claims.ByteChanges.{agreeing-views, agreement-goes_on}
 use Rattle.law_folder.proofs.claims.Outside.{AreClear, clear-at, represents-outside}
 use Rattle.law_folder.proofs.states.Standing.{found-at_rest}
-use Rattle.law_folder.proofs.updates.IndexWords.{magic-unchecked, others-unchecked}
+use Rattle.law_folder.proofs.updates.IndexWords.{others-unchecked, sound-unchecked}
 use Rattle.law_state.specs.Keeping.{Keeps}
 use Rattle.law_state.specs.KeepingLaws.{ChangesWord, KeptStatesEndSound}
 use Rattle.law_state.proofs.Counts.{count-beside}
@@ -29,7 +29,7 @@ module _ (state : State) (layout : Layout) (from between image : Image) (k : Kee
   ended : KeepsOffline state layout image
   ended = record {
     valid = k.entries.valid;
-    sound = (magic-unchecked between image magic).0 sound-between;
+    sound = (sound-unchecked between image 0 refl (lit≤ tt) refl refl magic).0 sound-between;
     represents = represents-outside (λ claim. false) (view_of from) (view_of image) state layout (agreeing-views (λ claim. false) from image agree) (λ claim node is. refl) k.entries.represents;
     numbers = k.entries.numbers;
     owners = k.entries.owners;

@@ -27,7 +27,7 @@ use Rattle.spec_run.specs.Moments.{IsLeftAt, IsStopped}
 use Rattle.spec_run.specs.Opening.{Opens, FailsToOpen, close_mark, has_opened}
 use Rattle.spec_run.specs.Progress.{AreNoted, IsWholeRun, MakesCommand, NotesCommand, Progress, Stops}
 use Rattle.spec_run.specs.Playing.{IsPlayed}
-use Rattle.spec_run.specs.Replies.{PrintsNoMore, evictions_of}
+use Rattle.spec_run.specs.Replies.{Begins, PrintsEvictionsEarly, PrintsNoMore, evictions_of}
 
 -- The opening.
 
@@ -152,10 +152,18 @@ LinesTurnNoneAway = (number : ℕ) (texts : List (List ℕ)) → TurnsNoneAway (
 abbrev pub FixedScriptsTurnNoneAway : Type 0
 FixedScriptsTurnNoneAway = ((requests : List Request) → TurnsNoneAway (until_refused requests)) × (TurnsNoneAway count_script × ((key : List ℕ) (stream : ℕ) (bytes : List ℕ) → TurnsNoneAway (put_script key stream bytes)))
 
--- in a session of lines what may be out of an iteration before its note are the lines of what its command evicts, and nothing where it is no command
+-- in such a script what may be out of an iteration before its note are lines of what its command evicts, and nothing where it is no command
 abbrev pub EvictedLinesComeEarly : Type 0
-EvictedLinesComeEarly = (number : ℕ) (texts : List (List ℕ)) (state : State) (clock : Readings) (before behind : List Turn) (turn : Turn)
-    → turns (session_script number texts) state clock ≡ before ++ turn ∷ behind → turn.early ≡ evictions_of (state_after state (commands_of before)) turn.command
+EvictedLinesComeEarly = (script : Script) → PrintsEvictionsEarly script → (state : State) (clock : Readings) (before behind : List Turn) (turn : Turn)
+    → turns script state clock ≡ before ++ turn ∷ behind → Begins turn.early (evictions_of (state_after state (commands_of before)) turn.command)
+
+-- the script of a session's lines is such a script
+abbrev pub LinesPrintEvictionsEarly : Type 0
+LinesPrintEvictionsEarly = (number : ℕ) (texts : List (List ℕ)) → PrintsEvictionsEarly (session_script number texts)
+
+-- and so are the scripts of the other subcommands: commands up to the first that is refused, the totals, and `put`
+abbrev pub FixedScriptsPrintEvictionsEarly : Type 0
+FixedScriptsPrintEvictionsEarly = ((requests : List Request) → PrintsEvictionsEarly (until_refused requests)) × (PrintsEvictionsEarly count_script × ((key : List ℕ) (stream : ℕ) (bytes : List ℕ) → PrintsEvictionsEarly (put_script key stream bytes)))
 
 -- a session makes at most half as many commands as its input has bytes, rounded up: each has a line that isn't empty
 abbrev pub CommandsAreFew : Type 0

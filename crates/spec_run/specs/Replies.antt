@@ -6,7 +6,9 @@ use Rattle.std.specs.declared.option.Option.TheVariants.{None, Some}
 use Rattle.blk_model.specs.State.{State}
 use Rattle.blk_io.specs.Streams.{Appends}
 use Rattle.blk_script.specs.Reply.{evicted_text}
+use Rattle.blk_model.specs.Step.{Outcome}
 use Rattle.spec_run.specs.Run.{Stamped, Turn, commands_of, outcome_in, text_of}
+use Rattle.spec_run.specs.Script.{Script, asks, ended, errs, says, turns_away}
 
 -- these bytes are a prefix of a text
 abbrev pub Begins : (front text : List ℕ) → Type 0
@@ -21,6 +23,14 @@ evictions_of state (Some command) = evicted_text (outcome_in state command).grou
 abbrev pub IsEarlyNext : List Turn → (front : List ℕ) → Type 0
 IsEarlyNext [] front = front ≡ []
 IsEarlyNext (turn ∷ turns) front = Begins front turn.text × Begins front turn.early
+
+-- of each command of a script, whatever its outcome is, only lines of what it evicts may be out before its note
+unfoldable pub PrintsEvictionsEarly : Script → Type 0
+PrintsEvictionsEarly ended = Unit {0}
+PrintsEvictionsEarly (errs text script) = PrintsEvictionsEarly script
+PrintsEvictionsEarly (says text script) = PrintsEvictionsEarly script
+PrintsEvictionsEarly (turns_away text script) = PrintsEvictionsEarly script
+PrintsEvictionsEarly (asks request shown script) = (outcome : Outcome) → Begins (shown outcome).early (evicted_text outcome.groups) × PrintsEvictionsEarly (script outcome)
 
 -- where a run broke off with so many commands noted, no more was printed than this: the texts of the first iterations, each of whose commands is noted, and
 -- what may be out of the iteration after them before its note

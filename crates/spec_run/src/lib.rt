@@ -4,7 +4,7 @@
 //! which a run composes, each the contract of a function with an empty body.
 #![tactic(auto)]
 
-ghost use Rattle.spec_run.specs.Laws.{AnsweredCommandsAreDone, AnsweredCommandsAreNoted, AnsweredEntriesAreFound, AskedCommandsAreNext, BoundNamesAreFew, ClockIsReadForCommands, ClosesFreeTheirName, ClosesLeaveEntriesClean, CommandsAreFew, CommandsArePlayed, EntriesAreFoundWhole, ErrorsArePlayed, EvictedLinesComeEarly, FixedScriptsTurnNoneAway, FoundRowsAreFromBefore, FoundRowsGoByOneList, LeastNamesAreClosedFirst, LinesArePlayedInTurn, LinesGoOn, LinesTurnNoneAway, NewEntriesAreLost, NoneIsClosedWhereNoneIsBound, NoteNumbersAreExact, NotedCommandsFollow, NothingIsPlayed, PlayedCommandsComeFirst, PlayedRunsAreCut, PlayedRunsAreWhole, PlayingGoesOn, RefusalsOutsideArePlayed, RestsAreFound, RunsBegin, RunsEnd, RunsGoOn, RunsGoOnInTurn, RunsMayStopBetween, RunsMayStopInACommand, RunsMayStopInTheOpening, SettledEntriesAreFound, StatesOfRunsAreValid, TextsArePlayed, UnsavedItemsAreLost, UnusedItemsKeepTheirOrder, WholeLinesComeFirst};
+ghost use Rattle.spec_run.specs.Laws.{AnsweredCommandsAreDone, AnsweredCommandsAreNoted, AnsweredEntriesAreFound, AskedCommandsAreNext, BoundNamesAreFew, ClockIsReadForCommands, ClosesFreeTheirName, ClosesLeaveEntriesClean, CommandsAreFew, CommandsArePlayed, EntriesAreFoundWhole, ErrorsArePlayed, EvictedLinesComeEarly, FixedScriptsPrintEvictionsEarly, FixedScriptsTurnNoneAway, FoundRowsAreFromBefore, FoundRowsGoByOneList, LeastNamesAreClosedFirst, LinesArePlayedInTurn, LinesGoOn, LinesPrintEvictionsEarly, LinesTurnNoneAway, NewEntriesAreLost, NoneIsClosedWhereNoneIsBound, NoteNumbersAreExact, NotedCommandsFollow, NothingIsPlayed, PlayedCommandsComeFirst, PlayedRunsAreCut, PlayedRunsAreWhole, PlayingGoesOn, RefusalsOutsideArePlayed, RestsAreFound, RunsBegin, RunsEnd, RunsGoOn, RunsGoOnInTurn, RunsMayStopBetween, RunsMayStopInACommand, RunsMayStopInTheOpening, SettledEntriesAreFound, StatesOfRunsAreValid, TextsArePlayed, UnsavedItemsAreLost, UnusedItemsKeepTheirOrder, WholeLinesComeFirst};
 
 /// A run begins with an opening that succeeds. An opening that failed leaves the folder as a crash of a run may, whatever commands would follow.
 pub fn runs_begin()
@@ -82,11 +82,13 @@ pub fn entries_are_found_whole_and_in_order()
 {}
 
 /// Each command that was answered where a run breaks off is done: its reply is printed after its note, and what is recovered is what a crash in a later command
-/// leaves, or the durable contents after all commands. Before the note of a session's line only the lines of what its command evicts may be out.
+/// leaves, or the durable contents after all commands. Before the note of a command only lines of what it evicts may be out.
 pub fn replies_follow_notes()
     ensures noted { AnsweredCommandsAreNoted }
     ensures done { AnsweredCommandsAreDone }
     ensures early { EvictedLinesComeEarly }
+    ensures lines { LinesPrintEvictionsEarly }
+    ensures fixed { FixedScriptsPrintEvictionsEarly }
 {}
 
 /// What was closed and answered is kept. The last Close of an object leaves its entries clean; and wherever the process crashes,

@@ -1,5 +1,5 @@
--- A folder without entries stays one where the magic word changes; so a new folder is one before that word is written.
-use Rattle.std.proofs.Common.{◌≡◌, ◌⊎◌, inl, inr, ⊎_elim, ℕ, ◌+◌, ◌*◌, ◌/◌, ◌%◌, ◌^◌, ◌<◌, ◌≤◌, Option, Some, None, refl, sym, ◌∙◌, ap, subst, arith, lit≤, true, false}
+-- A folder without entries stays one where a word changes that says nothing of entries; so a new folder is one before its magic word is written.
+use Rattle.std.proofs.Common.{◌≡◌, ◌⊎◌, inl, inr, ⊎_elim, ℕ, ◌+◌, ◌*◌, ◌/◌, ◌%◌, ◌^◌, ◌<◌, ◌≤◌, Option, Some, None, refl, sym, ◌∙◌, ap, subst, arith, lit<, true, false}
 use Rattle.std.specs.Prelude.{is_some, ◌==◌, ◌&&◌, nat_le, nat_lt}
 use Rattle.std.specs.Int.{bit_at}
 use Rattle.std.proofs.lemmas.Bool.{cases_lt, lt-ltb, le-ltb}
@@ -11,30 +11,31 @@ use Rattle.spec_image.specs.Steps.{with_word}
 use Rattle.spec_image.proofs.Splices.{content-spliced_outside}
 use Rattle.spec_image.proofs.Words.{length-with_words, same-word_at}
 use Rattle.spec_format.specs.Address.{header_size}
-use Rattle.spec_format.specs.BlockFiles.{linked_as, max_entries_in, next_file_in}
-use Rattle.spec_format.specs.Headers.{index_length, index_magic, place_of_bucket}
+use Rattle.spec_format.specs.BlockFiles.{is_among, linked_as, max_entries_in, next_file_in}
+use Rattle.spec_format.specs.Headers.{counted_places, header_length, index_length, index_magic, place_of_bucket}
 use Rattle.spec_format.specs.NewFolder.{HoldsNew, index_without_magic, new_index_words, words_before_magic}
 use Rattle.spec_format.proofs.Counts.{same-count}
 use Rattle.spec_folder.specs.View.{View, view_of}
-use Rattle.law_folder.specs.BareLaws.{IsFileWithoutBlocks, IsIndexWithoutEntries, HasNoEntries, MagicWordsAddNoEntries, UninitializedFoldersHaveNoEntries}
+use Rattle.law_folder.specs.BareLaws.{IsFileWithoutBlocks, IsIndexWithoutEntries, HasNoEntries, OtherWordsAddNoEntries, UninitializedFoldersHaveNoEntries}
+use Rattle.law_folder.specs.IndexWrites.{shown_words, sound_words}
 use Rattle.law_folder.proofs.claims.ByteChanges.{same-links}
 use Rattle.law_folder.proofs.states.NewFolders.{new_folder, new-bare, new-is_new}
-use Rattle.law_folder.proofs.updates.IndexWords.{magic-unchecked, others-hidden, word-still}
+use Rattle.law_folder.proofs.updates.IndexWords.{beside, not-among, others-hidden, sound-unchecked, word-still}
 
-module _ (from image : Image) (same : SameOutside (one_word Index 0) from image) (bare : HasNoEntries from) where
-  still : (p : ℕ) → 4 ≤ p → word image Index p ≡ word from Index p
-  still p later = word-still from image 0 same p (inr later)
+module _ (from image : Image) (at : ℕ) (aligned : at % 4 ≡ 0) (inside : at < header_length) (unshown : is_among shown_words at ≡ false) (uncounted : is_among counted_places at ≡ false) (lacks : is_among sound_words at ≡ false) (same : SameOutside (one_word Index at) from image) (bare : HasNoEntries from) where
+  counted : (p : ℕ) → p % 4 ≡ 0 → is_among counted_places p ≡ true → word image Index p ≡ word from Index p
+  counted p even there = word-still from image at same p (beside p at even aligned (not-among counted_places p at there uncounted))
 
   views : view_of image ≡ view_of from
-  views = others-hidden from image 0 refl (omega arith) refl same
+  views = others-hidden from image at aligned inside unshown same
 
   index : IsIndexWithoutEntries image
   index = record {
     head = ap (λ (v : View). v.list.head) views ∙ bare.index.head;
     tail = ap (λ (v : View). v.list.tail) views ∙ bare.index.tail;
     transaction = ap (λ (v : View). v.list.transaction) views ∙ bare.index.transaction;
-    table = λ b below. still (place_of_bucket b) (omega arith) ∙ bare.index.table b below;
-    counts = same-count (byte image Index) (byte from Index) (still 4 (lit≤ tt)) (still 8 (lit≤ tt)) (still 12 (lit≤ tt)) (still 48 (lit≤ tt)) (still 52 (lit≤ tt)) (still 268 (lit≤ tt)) ∙ bare.index.counts;
+    table = λ b below. word-still from image at same (place_of_bucket b) (inr (omega arith)) ∙ bare.index.table b below;
+    counts = same-count (byte image Index) (byte from Index) (counted 4 refl refl) (counted 8 refl refl) (counted 12 refl refl) (counted 48 refl refl) (counted 52 refl refl) (counted 268 refl refl) ∙ bare.index.counts;
   }
 
   block-word : (n i : ℕ) → word_at (byte image (Block n)) i ≡ word_at (byte from (Block n)) i
@@ -60,15 +61,15 @@ module _ (from image : Image) (same : SameOutside (one_word Index 0) from image)
 
   still-bare : HasNoEntries image
   still-bare = record {
-    sound = (magic-unchecked from image same).0 bare.sound;
+    sound = (sound-unchecked from image at aligned inside unshown lacks same).0 bare.sound;
     index = index;
     blocks = λ n linked. blank n (bare.blocks n (ap (λ (o : Option ℕ). is_some o) (sym (links n)) ∙ linked));
     only_linked = λ n below. same.files (Block n) refl ∙ bare.only_linked n below ∙ ap (λ (o : Option ℕ). is_some o) (sym (links n));
     no_externals = λ n below. same.files (External n) refl ∙ bare.no_externals n below;
   }
 
-pub magic-adds_none : MagicWordsAddNoEntries
-magic-adds_none from image same bare = still-bare from image same bare
+pub others-add_none : OtherWordsAddNoEntries
+others-add_none from image at aligned inside unshown uncounted lacks same bare = still-bare from image at aligned inside unshown uncounted lacks same bare
 
 -- the new folder without its magic word
 bare_folder : ℕ → Image
@@ -112,4 +113,4 @@ differs moment = record { bytes = bytes; lengths = lengths; files = files } wher
 pub uninitialized-bare : UninitializedFoldersHaveNoEntries
 uninitialized-bare moment image new =
     subst HasNoEntries (sym (is-bare_folder moment image new))
-    (magic-adds_none (new_folder moment) (bare_folder moment) (differs moment) (new-bare moment (new_folder moment) (new-is_new moment)))
+    (others-add_none (new_folder moment) (bare_folder moment) 0 refl (lit< tt) refl refl refl (differs moment) (new-bare moment (new_folder moment) (new-is_new moment)))

@@ -21,7 +21,7 @@ use Rattle.spec_folder.specs.ShownChanges.{ShowsTheSame}
 use Rattle.spec_folder.specs.Audit.{kept_by}
 use Rattle.spec_folder.specs.Found.{completed, kept}
 use Rattle.spec_folder.specs.Loads.{held_rule}
-use Rattle.law_folder.specs.IndexWrites.{MagicWordsAreNotChecked, shown_words, checked_words, HeadsAreWritten, TailsAreWritten, TransactionsAreWritten, OperationsAreWritten, OtherWordsAreNotShown, BucketsAreWritten, OtherWordsAreNotChecked, VersionsMayBeRaised, OtherBytesAreNotCounted, BucketsAreNotChecked, IndexWordsStandApart}
+use Rattle.law_folder.specs.IndexWrites.{SoundHeadersStaySound, shown_words, checked_words, sound_words, HeadsAreWritten, TailsAreWritten, TransactionsAreWritten, OperationsAreWritten, OtherWordsAreNotShown, BucketsAreWritten, OtherWordsAreNotChecked, VersionsMayBeRaised, OtherBytesAreNotCounted, BucketsAreNotChecked, IndexWordsStandApart}
 use Rattle.law_folder.proofs.updates.WellFormed.{sound_still}
 
 -- an image with another index
@@ -175,14 +175,14 @@ same-heads f g m n size b (c, (d, (e, rest))) = λ i.
 abbrev other_checked : List ℕ
 other_checked = 0 ∷ 24 ∷ 28 ∷ 36 ∷ zero_places
 
-abbrev sound_checked : List ℕ
-sound_checked = 24 ∷ 28 ∷ 36 ∷ zero_places
+abbrev other_sound : List ℕ
+other_sound = 24 ∷ 28 ∷ 36 ∷ zero_places
 
 -- sound headers stay sound where these are the same, and the check of the version gives the same
-sound-words : (from image : Image) (at : ℕ) → SameOutside (one_word Index at) from image → SameVersionCheck (byte image Index) (byte from Index)
-    → ((p : ℕ) → p % 4 ≡ 0 → p + 4 ≤ 368 → is_among sound_checked p ≡ true → word image Index p ≡ word from Index p) → HasSoundHeaders from → HasSoundHeaders image
+sound-kept : (from image : Image) (at : ℕ) → SameOutside (one_word Index at) from image → SameVersionCheck (byte image Index) (byte from Index)
+    → ((p : ℕ) → p % 4 ≡ 0 → p + 4 ≤ 368 → is_among other_sound p ≡ true → word image Index p ≡ word from Index p) → HasSoundHeaders from → HasSoundHeaders image
 unfolding list_checks
-sound-words from image at same version s =
+sound-kept from image at same version s =
     sound_still (one_word Index at) from image (record { bytes = λ m i small. refl }) (λ m. refl) same
     (ap first_of (same-heads (byte image Index) (byte from Index) (length_of image Index) (length_of from Index) (same.lengths Index refl) version
     (s 24 refl (lit≤ tt) refl, (s 28 refl (lit≤ tt) refl, (s 36 refl (lit≤ tt) refl, tt)))))
@@ -228,7 +228,7 @@ sound-words from image at same version s =
 checked-still : (from image : Image) (at : ℕ) → SameOutside (one_word Index at) from image → SameVersionCheck (byte image Index) (byte from Index)
     → ((p : ℕ) → p % 4 ≡ 0 → p + 4 ≤ 368 → is_among other_checked p ≡ true → word image Index p ≡ word from Index p) → KeepsHeaders from image
 checked-still from image at same version s = record {
-  sound = sound-words from image at same version (λ p even inside there. s p even inside (or_right (0 == p) (is_among sound_checked p) there));
+  sound = sound-kept from image at same version (λ p even inside there. s p even inside (or_right (0 == p) (is_among other_sound p) there));
   magic = s 0 refl (lit≤ tt) refl;
 }
 
@@ -248,14 +248,14 @@ others-unchecked from image at aligned lacks same =
     let still : (p : ℕ) → p % 4 ≡ 0 → is_among checked_words p ≡ true → word image Index p ≡ word from Index p = λ p even there. word-still from image at same p (beside p at even aligned (not-among checked_words p at there lacks)) in
     checked-still from image at same (version-still (byte image Index) (byte from Index) (still 4 refl refl)) (λ p even inside there. still p even (checked-other p there))
 
-pub magic-unchecked : MagicWordsAreNotChecked
+pub sound-unchecked : SoundHeadersStaySound
 unfolding kept
-magic-unchecked from image same =
-    let still : (p : ℕ) → p % 4 ≡ 0 → is_among (4 ∷ sound_checked) p ≡ true → word image Index p ≡ word from Index p =
-    λ p even there. word-still from image 0 same p (beside p 0 even refl (not-among (4 ∷ sound_checked) p 0 there refl)) in (
-      sound-words from image 0 same (version-still (byte image Index) (byte from Index) (still 4 refl refl))
-          (λ p even inside there. still p even (or_right (4 == p) (is_among sound_checked p) there)),
-      ap (λ (view : View). kept_by held_rule (completed view)) (others-hidden from image 0 refl (omega arith) refl same),
+sound-unchecked from image at aligned inside unshown lacks same =
+    let still : (p : ℕ) → p % 4 ≡ 0 → is_among sound_words p ≡ true → word image Index p ≡ word from Index p =
+    λ p even there. word-still from image at same p (beside p at even aligned (not-among sound_words p at there lacks)) in (
+      sound-kept from image at same (version-still (byte image Index) (byte from Index) (still 4 refl refl))
+          (λ p even below there. still p even (or_right (4 == p) (is_among other_sound p) there)),
+      ap (λ (view : View). kept_by held_rule (completed view)) (others-hidden from image at aligned inside unshown same),
     )
 
 -- a version that is read, and the one that is made now
