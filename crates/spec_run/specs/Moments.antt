@@ -62,7 +62,8 @@ pub record IsStopped (from : Image) (opened : State) (commands : List Stamped) (
   -- once the opening has ended, and until the step that ends the session, the crash word is 1 and the number of the session is that of the opening
   pub session : has_opened steps ≡ true → has_closed steps ≡ false → IsInSessionOf from image
   -- a step once the opening has ended is of the next command, and its note where that is refused; where there is none it ends the session: so a command that is
-  -- refused makes no step but its note, a line that is no command has none of its own, and no command ends the session
+  -- refused makes no step but its note, and no command ends the session; a line that is no command is none of the commands, so what is made there is judged
+  -- with the next one
   pub refused : (before : List TrailStep) (step : TrailStep) → steps ≡ before ++ step ∷ [] → has_opened before ≡ true
       → MayFollow opened commands (notes_in before) (command_after commands (notes_in before)) step
   -- the step that ends the session is the last
