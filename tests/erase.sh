@@ -2,8 +2,7 @@
 # Without it the bytes are found. ERASE_KILLS says which places of a kill are tried of each command: a number, so many that are drawn; all, those
 # before each write, after its first word, midway and before its last; or words, those between any two words that are written. ERASE_PART=K/N tries
 # the K-th of N parts of these places alone. ERASE_SEED is what the places, the bytes, the script and some lengths are drawn from: parts with the
-# same seed are parts of records that differ in times alone, as the sums that are told show; but for commands on sparse data, whose parts have keys
-# with a time in them and so lie in other buckets in each part, though the places are as many.
+# same seed are parts of the same records, as the sums that are told show.
 # Of each place it is asked that the next opening ends well, also where it is killed too (behind each third place); that no piece of what was
 # removed is in any file then, and no byte in a block that is free or behind the end of a stream or a key; that each block that is marked and each
 # external file has an owner; and that what the command leaves alone has its bytes. But for all of them, the places are replayed from a record of
@@ -12,6 +11,7 @@
 # replayed folder. Without python3 the program is killed at so many places in even steps instead. In every run five records are replayed that leave
 # out one byte of the zeros, one of a program that doesn't erase, and one of openings that don't: each has to be refused, five of the seven by what
 # is found behind a kill. So has a replay that puts no folder aside, and one that compares no kill.
+# Block files from data_4 on are left out: each is made when another is full, and a folder with a full one takes too long to look through.
 . "$(dirname "${BASH_SOURCE[0]}")/common.sh"
 
 for tool in awk grep basenc; do
@@ -572,10 +572,13 @@ done
 unset BLKCACHE_ERASE
 
 # A kill at places of what is written, and the next opening, which is killed too behind each third of them.
-if ! command -v cc >/dev/null || ! cc -shared -fPIC -o "$room/stopped.so" "$top/tests/stopped.c" -ldl 2>/dev/null; then
+sed 's/tv_sec = 4102444800/tv_sec = 1800000000/' "$top/tests/stopped.c" >"$room/earlier.c"
+if ! command -v cc >/dev/null || ! cc -shared -fPIC -o "$room/stopped.so" "$top/tests/stopped.c" -ldl 2>/dev/null ||
+    ! cc -shared -fPIC -o "$room/earlier.so" "$room/earlier.c" -ldl 2>/dev/null; then
     skip 'what a kill leaves' 'cc is missing'
     finish
 fi
+is 'the clock of the bases is another' 1 "$(grep -c 'tv_sec = 1800000000;' "$room/earlier.c")"
 if [ "$has_python" = no ]; then
     skip 'kills between any two words, and records that leave out a byte' 'python3 is missing'
     [ "$places_of_each" != words ] || finish
@@ -585,11 +588,19 @@ stopped() {
     { STOPPED=$1 LD_PRELOAD=$room/stopped.so "$program" "${@:2}" <"$room/fed" >"$room/said" 2>"$room/complained"; } 2>/dev/null
     status=$?
 }
+# Runs a script as plays does, under a clock that stands still: what it leaves is the same each time, also the keys of parts, which have a time in
+# them. It is earlier than the clock of the commands, so that each time that these write is another.
+makes() {
+    mkdir -p "$1"
+    timeout 60 env LD_PRELOAD="$room/earlier.so" "$program" "$1" session <"$room/input" >"$room/said" 2>"$room/complained"
+    status=$?
+    : >"$room/input"
+    is "a script of ${1##*/} is done" '0 0' "$status $(grep -cvE '^(ok|data|evicted)' "$room/said")"
+}
 # What is replayed is in memory where there is room for it.
 scratch=$(mktemp -d /dev/shm/erase.XXXXXX 2>/dev/null) || scratch=$(mktemp -d)
 trap 'rm -rf "$room" "$scratch"' EXIT
 export BLKCACHE_ERASE=1
-mkdir "$room/base"
 drawn=0
 secret 40; first=$text
 secret 304; second=$text
@@ -604,7 +615,7 @@ secret 5008; third=$text
     secret 3008; printf 'create 0 sparse\nswrite 0 1024 %s\n' "$data"
     secret 17008; printf 'swrite 0 1048576 %s\nclose 0\n' "$data"
 } >"$room/input"
-plays "$room/base"
+makes "$room/base"
 secret 1008; new=$text
 secret 4000; longer=$data
 secret 1600; same=$text
@@ -637,7 +648,8 @@ feed() {
     local key
     printf %b "$1" >"$room/fed"
     for key in "${stay[@]}"; do
-        printf '%s\n' "open 0 $key" 'read 0 0 0 100000' 'read 0 1 0 100000' 'read 0 2 0 100000' 'sread 0 1024 4096' 'sread 0 1048576 32768' 'close 0'
+        printf '%s\n' "open 0 $key" 'read 0 0 0 100000' 'read 0 1 0 100000' 'read 0 2 0 100000' \
+            'sread 0 1024 4096' 'sread 0 1048576 32768' 'sread 0 2097152 32768' 'close 0'
     done >"$room/told"
     take try "$base"
     told=$(looks "$room/told" "$room/try")
@@ -800,6 +812,8 @@ stay=(sparse)
 kills 'eviction' "$new" put more 0 --items 4
 stay=("$third" sparse)
 kills 'eviction by bytes, by a write' "create 0 more\nwrite 0 0 0 $longer\nclose 0\n" session --max 45000
+stay=(sparse)
+kills 'eviction by bytes of a key in blocks of 4096' "create 0 more\nwrite 0 0 0 6d6f7265\nclose 0\n" session --max 34000
 stay=()
 kills 'trim' '' trim 0
 stay=("$third" sparse)
@@ -818,7 +832,7 @@ planted_without kills '0 kills of 3' 'doom of blocks' '' doom "$first"
 # Sparse data that are evicted: the others were used since.
 take turned "$room/base"
 printf '%s\nclose 0\n' "open 0 $first" "open 0 $second" "open 0 $third" >"$room/input"
-plays "$room/turned"
+makes "$room/turned"
 base=$room/turned
 stay=("$first" "$second" "$third")
 kills 'eviction of sparse data' "$new" put more 0 --items 4
@@ -833,7 +847,7 @@ step=7 kills 'a folder that is made anew' '' count
 
 # An opening that drops what a killed session left dirty, and the same of a folder of the first version, which is raised besides.
 take dirty "$room/base"
-coproc talk { exec "$program" "$room/dirty" session 2>"$room/complained"; }
+coproc talk { LD_PRELOAD=$room/earlier.so exec "$program" "$room/dirty" session 2>"$room/complained"; }
 talk_in=${talk[1]} talk_out=${talk[0]} talk_id=$talk_PID
 replies=
 for line in "open 0 $first" "write 0 0 64 $longer" "open 1 $second" "write 1 1 0 $longer" 'open 2 sparse' "swrite 2 2048 $longer"; do
@@ -881,7 +895,6 @@ base=$room/dirty_old
 kills 'an opening that raises a folder' '' count
 
 # Keys in blocks of 256 and of 1024 and in a file of their own, and the keys of parts, which have that of their entry.
-mkdir "$room/keyed"
 drawn=0
 secret 2000; first=$text
 secret 20000; second=$text
@@ -895,7 +908,7 @@ secret 1008; fourth=$text
     secret 304; printf 'create 0 %s\nwrite 0 2 0 %s\nclose 0\n' "$fourth" "$data"
     secret 1600; printf 'create 0 stays\nwrite 0 0 0 %s\nclose 0\n' "$data"
 } >"$room/input"
-plays "$room/keyed"
+makes "$room/keyed"
 looks_for_drawn
 base=$room/keyed
 stay=("$second" "$third" "$fourth" stays)
@@ -913,8 +926,37 @@ kills 'eviction by bytes with keys of each size' "create 0 more\nwrite 0 0 0 6d6
 stay=(stays)
 kills 'trim of all but one' '' trim 1700
 
+# Streams that are cut to nothing, and sparse parts in blocks of 1024 and 256 that grow: within 1024 and from there to 4096, and from 256 to 1024 and
+# into a file.
+drawn=0
+{
+    secret 304; printf 'create 0 one\nwrite 0 0 0 %s\n' "$data"
+    secret 2000; printf 'write 0 1 0 %s\n' "$data"
+    secret 5008; printf 'write 0 2 0 %s\nclose 0\n' "$data"
+    secret 17008; printf 'create 0 two\nwrite 0 0 0 %s\nclose 0\n' "$data"
+    sparse_places='1024 1048576 2097152'
+    secret 304; printf 'create 0 sparse\nswrite 0 1024 %s\n' "$data"
+    secret 512; printf 'swrite 0 1048576 %s\n' "$data"
+    secret 512; printf 'swrite 0 2097152 %s\nclose 0\n' "$data"
+    secret 1600; printf 'create 0 stays\nwrite 0 0 0 %s\nclose 0\n' "$data"
+} >"$room/input"
+makes "$room/small"
+input='open 0 sparse\n'
+secret 1008; input+="swrite 0 1328 $data\n"
+secret 4000; input+="swrite 0 2336 $data\n"
+secret 4000; input+="swrite 0 1048576 $data\n"
+secret 17008; input+="swrite 0 2097152 $data\n"
+looks_for_drawn
+base=$room/small
+stay=(two sparse stays)
+kills 'cut to nothing in blocks' 'open 0 one\ncut 0 0 0 -\ncut 0 1 0 -\ncut 0 2 0 -\nclose 0\n' session
+stay=(one sparse stays)
+kills 'cut to nothing of a file' 'open 0 two\ncut 0 0 0 -\nclose 0\n' session
+stay=(one two stays)
+kills 'sparse parts that grow' "${input}close 0\n" session
+kills 'doom of sparse data in blocks of 256' '' doom sparse
+
 # From each storage into the others, those that no command above goes, and sparse data in blocks of 4096.
-mkdir "$room/sized"
 drawn=0
 {
     printf 'create 0 grows\n'
@@ -929,7 +971,7 @@ drawn=0
     secret 5008; printf 'create 0 sparse\nswrite 0 1024 %s\n' "$data"
     secret 9008; printf 'swrite 0 1048576 %s\nclose 0\n' "$data"
 } >"$room/input"
-plays "$room/sized"
+makes "$room/sized"
 secret 5008; longer=$data
 secret 16400; much=$data
 looks_for_drawn
@@ -947,7 +989,6 @@ kills 'doom of sparse data in blocks of 4096' '' doom sparse
 
 # Streams from lengths that are drawn to others, by a cut, by a write behind the end, or written anew.
 lengths=(16 240 256 272 512 784 1008 1024 2048 3088 4080 4096 8192 12304 16384 16400 24000)
-mkdir "$room/lengths"
 drawn=0
 RANDOM=$seed
 changes=
@@ -976,7 +1017,7 @@ input='open 0 changes\n'
     secret 1600
     printf 'create 0 stays\nwrite 0 0 0 %s\nclose 0\n' "$data"
 } >"$room/input"
-plays "$room/lengths"
+makes "$room/lengths"
 looks_for_drawn
 base=$room/lengths
 stay=(stays)

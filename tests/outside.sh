@@ -1,7 +1,7 @@
 # Nothing outside the folder is read or written: links and second names of cache files are refused, before a run and during one.
 # OUTSIDE_OPENINGS says how many openings of each name have to go well beside a program that swaps it, however long that takes. Without it
 # there are up to ten thousand of an external file, which sessions open again and again, and 300 of each other, which take a run each: some
-# that may write, and some of a subcommand that only reads.
+# that may write, and, of each name, some of a subcommand that only reads.
 . "$(dirname "${BASH_SOURCE[0]}")/common.sh"
 openings_of_each=${OUTSIDE_OPENINGS:-}
 
@@ -346,7 +346,7 @@ done
 
 # One that only reads.
 : >"$room/lines"
-for it in index data_0 data_1; do
+for it in index data_0 data_1 data_2 data_3 f_000001; do
     beside_swaps "${openings_of_each:-300}" "$it" 64000 verify
 done
 
