@@ -23,6 +23,7 @@ use Rattle.blk_model.specs.declared.Refusal.TheVariants as refusal
 use Rattle.law_state.specs.Commands.{Does, ForKept, IsDone, MayStop, MayStopAtEach}
 use Rattle.law_state.proofs.Stopping.{stop-evicted}
 use Rattle.blk_script.specs.Reply.{evicted_text}
+use Rattle.spec_run.proofs.StepFacts.{true_false}
 use Rattle.blk_cache.specs.declared.cache.Cache.{Cache}
 use Rattle.blk_cache.specs.declared.covered.Covered.{Covered}
 use Rattle.blk_cache.specs.CacheKeeping.{HoldsState}
@@ -175,7 +176,7 @@ module _ (cache : Cache) (told mid : Told) (moment handle : ℕ) (key : List ℕ
 
 -- an answer that is none of a refusal
 pub only-done : (r : Result Answer Fault) (P : Type 0) → IfOk r (λ given. given ≡ answer.Done) → IfOk r (λ given. IsRefused given → P)
-only-done (Ok given) P done = λ refused. absurd (subst IsRefused done refused)
+only-done (Ok given) P done = λ refused. true_false (subst IsRefused done refused) refl
 only-done (Err e) P done = tt
 
 -- from one property of an answer to another

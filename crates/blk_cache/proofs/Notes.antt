@@ -1,12 +1,11 @@
 -- The note after the steps of a command.
-use Rattle.std.proofs.Common.{◌≡◌, ℕ, [], ◌∷◌, Option, Some, None, inl, inr, refl, sym, ap, subst, ◌∙◌}
+use Rattle.std.proofs.Common.{◌≡◌, ℕ, [], ◌∷◌, Option, Some, None, inl, inr, refl, true, sym, ap, subst, ◌∙◌}
 use Rattle.std.specs.Option.{ForSome, option_map}
 use Rattle.spec_image.specs.Image.{Image}
 use Rattle.spec_image.specs.Steps.{Note, after}
 use Rattle.spec_image.specs.Told.{Applies, Passes, Stays, Told}
 use Rattle.spec_image.proofs.Runs.{grows_then}
 use Rattle.blk_model.specs.Bounds.{bounds_of}
-use Rattle.blk_model.specs.Reply.{answer_of}
 use Rattle.blk_model.specs.Request.{Request}
 use Rattle.blk_model.specs.State.{State, named_by}
 use Rattle.blk_model.specs.Step.{step}
@@ -18,12 +17,14 @@ use Rattle.blk_handles.specs.Bindings.{Bindings, binding_of, open_count}
 use Rattle.law_state.specs.Commands.{Does, ForKept, IsDone, IsNoted, IsStepped, MayStop, MayStopAtEach}
 use Rattle.spec_format.specs.Session.{KeepsSessionWords}
 use Rattle.spec_format.proofs.Session.{commands-words-kept}
+use Rattle.spec_run.specs.Progress.{NotesCommand}
+use Rattle.spec_run.specs.Run.{at_moment}
+use Rattle.spec_run.specs.Script.{is_refused}
 use Rattle.law_state.specs.KeepingLaws.{HasMagic}
 use Rattle.law_state.proofs.Keeping.{kept-stands}
 use Rattle.blk_cache.specs.declared.cache.Cache.{Cache}
 use Rattle.blk_cache.specs.CacheKeeping.{IsBoundAs, HoldsState, KeepsState}
 use Rattle.blk_cache.specs.CommandClauses.{FlushesClean, IsRefused, OnlyNotesChange, SparesRefused}
-use Rattle.blk_cache.specs.Stepping.{NotesAlone}
 
 -- a note changes no file
 note-nothing : (number : ℕ) (files : Option Image) → option_map (after (Note number ∷ [])) files ≡ files
@@ -87,13 +88,13 @@ module _ (old new last : Cache) (told mid now : Told) (moment : ℕ) (request : 
     noted-steps image there state k = inr (noted-ends image there state k)
 
     -- a refusal makes the note alone
-    pub refused-notes : (IsRefused answer → Stays told mid) → ForKept (KeepsState old) told (λ state. IsRefused (answer_of (step state moment request).reply) → Applies told now (Note number ∷ []))
+    pub refused-notes : (IsRefused answer → Stays told mid) → ForKept (KeepsState old) told (λ state. is_refused (step state moment request) ≡ true → Applies told now (Note number ∷ []))
     refused-notes quiet image there state k refused =
         let d : IsDone (HoldsState new) mid moment request answer state = does image there state k.holds in
         subst (λ (t : Told). Applies t now (Note number ∷ [])) (quiet (subst (λ (a : Answer). IsRefused a) (sym d.answered) refused)) note
 
     -- it is noted, and a refusal makes the note alone
-    pub noted-alone : (IsRefused answer → Stays told mid) → ForKept (KeepsState old) told (NotesAlone told now moment request number)
+    pub noted-alone : (IsRefused answer → Stays told mid) → ForKept (KeepsState old) told (NotesCommand told now (at_moment moment request) number)
     noted-alone quiet image there state k = record { noted = noted-ends image there state k; alone = refused-notes quiet image there state k }
 
 -- and it makes no step where the note isn't made

@@ -27,6 +27,7 @@ use Rattle.law_state.proofs.Stopping.{refusals-done}
 use Rattle.blk_sparse.specs.SparseObjects.{FindsUsed, ForEachKeptParent, KeepsParent, KeepsParentUsed, parts_used}
 use Rattle.blk_sparse.specs.declared.children.Parent.{Parent}
 use Rattle.blk_sparse.proofs.PrefixRuns.{front-bytes}
+use Rattle.spec_run.proofs.StepFacts.{true_false}
 use Rattle.blk_cache.specs.declared.cache.Cache.{Cache}
 use Rattle.blk_cache.specs.declared.sparse_asking.PlainObject.{PlainObject}
 use Rattle.blk_cache.specs.declared.sparse_reading.Wanted.{Wanted}
@@ -96,8 +97,8 @@ module _ (state : State) (moment handle offset count : ℕ) where
 
 -- the answer about a run is no refusal
 pub run-told : (w : Wanted) (offset : ℕ) (run : ℕ × ℕ) → IsRefused (told_of_run w offset run) → ⊥
-run-told wanted.Bytes offset run r = r
-run-told wanted.Run offset run r = r
+run-told wanted.Bytes offset run r = true_false r refl
+run-told wanted.Run offset run r = true_false r refl
 
 pub sparse-refuses : (cache : Cache) (old now : Told) → now ≡ old → (moment handle offset count : ℕ) (w : Wanted) (why : Refusal) → ForSome old.files (λ image. (state : State) → HoldsState cache state image → refused moment (to_use_sparse w handle offset count) state ≡ Some why)
     → Does (HoldsState cache) (HoldsState cache) old now moment (to_use_sparse w handle offset count) (answer.Refused why)

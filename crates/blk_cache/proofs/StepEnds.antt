@@ -14,13 +14,15 @@ use Rattle.blk_model.specs.State.{State}
 use Rattle.blk_disk.specs.declared.tables.BlockFiles.{BlockFiles}
 use Rattle.blk_disk.specs.Open.{IsOpen}
 use Rattle.law_state.specs.Commands.{ForKept}
+use Rattle.spec_run.specs.Progress.{NotesCommand}
+use Rattle.spec_run.specs.Run.{at_moment}
 use Rattle.blk_cache.specs.declared.cache.Cache.{Cache}
 use Rattle.blk_cache.specs.declared.fault.StepFault.{StepFault}
 use Rattle.blk_cache.specs.declared.fault.StepFault.TheVariants as step_fault
 use Rattle.blk_cache.specs.CacheKeeping.{KeepsState, HoldsState}
 use Rattle.blk_cache.specs.Listing.{OnlyRoomChanges}
 use Rattle.blk_cache.specs.CommandClauses.{SparesRefused}
-use Rattle.blk_cache.specs.Stepping.{FailsBefore, IfStepDamaged, IfStepDevice, NotesAlone, SaysPrefix, of_step_fault}
+use Rattle.blk_cache.specs.Stepping.{FailsBefore, IfStepDamaged, IfStepDevice, SaysPrefix, of_step_fault}
 use Rattle.blk_cache.proofs.Replies.{kept-still}
 
 -- ---- faults that are handed on
@@ -67,14 +69,14 @@ module _ (noted last : Cache) (mid now : Told) (others : OnlyRoomChanges noted l
 
 module _ {A : Type 0} (result : Result A StepFault) (cache : Cache) (told now : Told) (moment : ℕ) (request : Request) (number : ℕ) (old new : Option (List ℕ)) where
   abbrev pub Unanswered : Type 0
-  Unanswered = IfStepDevice result (FailsBefore (KeepsState cache) told now moment request old new ⊎ ForKept (KeepsState cache) told (NotesAlone told now moment request number))
+  Unanswered = IfStepDevice result (FailsBefore (KeepsState cache) told now moment request old new ⊎ ForKept (KeepsState cache) told (NotesCommand told now (at_moment moment request) number))
 
   -- before the note nothing of the reply is printed
   pub failed-before : SaysPrefix (HoldsState cache) told moment request old new → SparesRefused (HoldsState cache) told now moment request → Unanswered
   failed-before front spares =
-      any-device result (FailsBefore (KeepsState cache) told now moment request old new ⊎ ForKept (KeepsState cache) told (NotesAlone told now moment request number))
+      any-device result (FailsBefore (KeepsState cache) told now moment request old new ⊎ ForKept (KeepsState cache) told (NotesCommand told now (at_moment moment request) number))
       (inl (record { says = λ image there state k. front image there state k.holds; spares = λ image there state k. spares image there state k.holds }))
 
   -- and after it the command is noted
-  pub failed-behind : ForKept (KeepsState cache) told (NotesAlone told now moment request number) → Unanswered
-  failed-behind noted = any-device result (FailsBefore (KeepsState cache) told now moment request old new ⊎ ForKept (KeepsState cache) told (NotesAlone told now moment request number)) (inr noted)
+  pub failed-behind : ForKept (KeepsState cache) told (NotesCommand told now (at_moment moment request) number) → Unanswered
+  failed-behind noted = any-device result (FailsBefore (KeepsState cache) told now moment request old new ⊎ ForKept (KeepsState cache) told (NotesCommand told now (at_moment moment request) number)) (inr noted)

@@ -29,6 +29,7 @@ use Rattle.law_state.specs.OneCallLaws.{Names}
 use Rattle.law_state.proofs.Stopping.{stop-before, stop-evicted}
 use Rattle.law_state.proofs.Unsettling.{room-valid}
 use Rattle.blk_script.specs.Reply.{evicted_text}
+use Rattle.spec_run.proofs.StepFacts.{true_false}
 use Rattle.blk_cache.specs.declared.asking.NamedStream.{NamedStream}
 use Rattle.blk_cache.specs.declared.cache.Cache.{Cache}
 use Rattle.blk_cache.specs.Asking.{stream_refusal}
@@ -208,5 +209,5 @@ module _ (moment handle stream offset : ℕ) (cut : Bool) (bytes : List ℕ) (ca
 
 -- an answer that is none of a refusal
 pub only-wrote : (r : Result Answer Fault) (n : ℕ) (P : Type 0) → IfOk r (λ given. given ≡ answer.Wrote n) → IfOk r (λ given. IsRefused given → P)
-only-wrote (Ok given) n P wrote = λ refused. absurd (subst IsRefused wrote refused)
+only-wrote (Ok given) n P wrote = λ refused. true_false (subst IsRefused wrote refused) refl
 only-wrote (Err e) n P wrote = tt

@@ -4,11 +4,9 @@ use Rattle.std.specs.declared.option.Option.{Option}
 use Rattle.spec_image.specs.Image.{Image}
 use Rattle.spec_image.specs.Told.{Stays, Told}
 use Rattle.blk_io.specs.declared.fault.Damage.{Damage}
-use Rattle.blk_model.specs.Reply.{answer_of}
 use Rattle.blk_model.specs.Request.{Request, to_flush, to_sparse_range, to_sparse_read, to_sparse_write}
 use Rattle.blk_model.specs.State.{Object, State}
 use Rattle.blk_model.specs.declared.Answer.{Answer}
-use Rattle.blk_model.specs.declared.Answer.TheVariants as answer
 use Rattle.blk_model.specs.declared.Refusal.{Refusal}
 use Rattle.blk_model.specs.declared.Refusal.TheVariants as refusal
 use Rattle.blk_model.specs.Refusals.{first_refusal, no_key, no_name}
@@ -17,6 +15,7 @@ use Rattle.blk_disk.specs.declared.tables.BlockFiles.{BlockFiles}
 use Rattle.blk_disk.specs.Tables.{is_node_among}
 use Rattle.law_state.specs.Commands.{ForKept}
 use Rattle.law_state.specs.OneCallLaws.{Names}
+use Rattle.spec_run.specs.Script.{is_refusal, is_refused, refusal_of}
 use Rattle.blk_lru.specs.Damages.{IsTouchDamage}
 use Rattle.blk_handles.specs.Bindings.{Bindings, binding_of}
 use Rattle.blk_cache.specs.declared.cache.Cache.{Cache}
@@ -25,16 +24,11 @@ use Rattle.blk_evict.specs.Looking.{IsLookUpDamage}
 
 -- the answer is a refusal
 abbrev pub IsRefused : Answer → Type 0
-IsRefused (answer.Refused why) = Unit {0}
-IsRefused _ = ⊥
-
--- the model refuses a request in a state
-abbrev pub RefusesIn : ℕ → Request → State → Type 0
-RefusesIn moment request state = IsRefused (answer_of (step state moment request).reply)
+IsRefused answer = is_refusal (refusal_of answer) ≡ true
 
 -- where the model refuses the request no step is made, whatever is answered
 abbrev pub SparesRefused : (State → Image → Type 0) → (old new : Told) → ℕ → Request → Type 0
-SparesRefused keeps old new moment request = ForKept keeps old (λ state. RefusesIn moment request state → Stays old new)
+SparesRefused keeps old new moment request = ForKept keeps old (λ state. is_refused (step state moment request) ≡ true → Stays old new)
 
 -- the cache keeps some state on the image
 abbrev pub KeepsAny : Cache → Image → Type 0

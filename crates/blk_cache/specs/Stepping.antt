@@ -1,9 +1,8 @@
 -- The contract of one step of a cache: a command, what it prints, and its completion marker.
-use Rattle.std.specs.Prelude.{ℕ, Bool, List, [], ◌∷◌, Result, Ok, Err}
+use Rattle.std.specs.Prelude.{ℕ, Bool, List, Result, Ok, Err}
 use Rattle.std.specs.declared.option.Option.{Option}
 use Rattle.spec_image.specs.Image.{Image}
-use Rattle.spec_image.specs.Steps.{Note}
-use Rattle.spec_image.specs.Told.{Applies, Told}
+use Rattle.spec_image.specs.Told.{Told}
 use Rattle.blk_io.specs.Streams.{Appends}
 use Rattle.blk_io.specs.declared.fault.Damage.{Damage}
 use Rattle.blk_io.specs.declared.fault.Fault.{Fault}
@@ -11,13 +10,13 @@ use Rattle.blk_io.specs.declared.fault.Fault.TheVariants as fault
 use Rattle.blk_model.specs.Request.{Request}
 use Rattle.blk_model.specs.State.{State}
 use Rattle.blk_model.specs.Step.{Outcome, step}
-use Rattle.law_state.specs.Commands.{ForKept, IsNoted}
+use Rattle.law_state.specs.Commands.{ForKept}
 use Rattle.blk_script.specs.Reply.{evicted_text}
 use Rattle.blk_cache.specs.declared.cache.Cache.{Cache}
 use Rattle.blk_cache.specs.declared.fault.StepFault.{StepFault}
 use Rattle.blk_cache.specs.declared.fault.StepFault.TheVariants as step_fault
 use Rattle.blk_cache.specs.CacheKeeping.{HoldsState}
-use Rattle.blk_cache.specs.CommandClauses.{RefusesIn, SparesRefused}
+use Rattle.blk_cache.specs.CommandClauses.{SparesRefused}
 use Rattle.blk_evict.specs.RoomPrinting.{PrintsUnlessFailed}
 
 -- Printed texts.
@@ -40,11 +39,6 @@ SaysPrefix keeps told moment request old new = ForKept keeps told (λ state. App
 pub record FailsBefore (keeps : State → Image → Type 0) (told now : Told) (moment : ℕ) (request : Request) (old new : Option (List ℕ)) : Type 0 where
   pub says : SaysPrefix keeps told moment request old new
   pub spares : SparesRefused keeps told now moment request
-
--- the command is done and noted, and where the model refuses it its note is the only step
-pub record NotesAlone (told now : Told) (moment : ℕ) (request : Request) (number : ℕ) (state : State) : Type 0 where
-  pub noted : IsNoted told now moment request number state
-  pub alone : RefusesIn moment request state → Applies told now (Note number ∷ [])
 
 -- Answers.
 

@@ -1,5 +1,5 @@
 // Commands with their notes, and what they print.
-ghost use Rattle.std.specs.Prelude.{◌≡◌, ◌≤◌, ◌+◌, ◌∷◌, ◌++◌, ◌⊎◌, [], IfOk, IfSome, None, OnErr, OnOk, is_some, position, slice_set};
+ghost use Rattle.std.specs.Prelude.{◌≡◌, ◌≤◌, ◌+◌, ◌∷◌, ◌++◌, ◌⊎◌, [], IfOk, IfSome, None, OnErr, OnOk, is_some, position, slice_set, true};
 ghost use Rattle.std.specs.Option.{ForSome, option_map};
 ghost use Rattle.spec_image.specs.Steps.{Note};
 ghost use Rattle.spec_image.specs.Told.{Applies, Rises, Stays};
@@ -12,10 +12,13 @@ ghost use Rattle.blk_disk.specs.Open.{IsOpen};
 ghost use Rattle.law_state.specs.Commands.{Does, ForKept, IsNoted, IsStepped, MayStopAtEach, note_number};
 ghost use Rattle.blk_object.specs.FailedChecks.{IsFailedCheck};
 ghost use Rattle.blk_script.specs.Reply.{outcome_text};
+ghost use Rattle.spec_run.specs.Progress.{NotesCommand};
+ghost use Rattle.spec_run.specs.Run.{at_moment};
+ghost use Rattle.spec_run.specs.Script.{is_refused};
 ghost use Rattle.blk_cache.specs.CacheKeeping.{KeepsState, HoldsState};
 ghost use Rattle.blk_cache.specs.CommandClauses.{FlushesClean, IsOnSparse, IsRefused, KeepsAny, OnlyNotesChange, SparesRefused};
 ghost use Rattle.blk_evict.specs.RoomPrinting.{FailsWhereItRose};
-ghost use Rattle.blk_cache.specs.Stepping.{FailsBefore, IfDone, IfSink, IfStepDamaged, IfStepDevice, NotesAlone, SaysEvicted, SaysPrefix};
+ghost use Rattle.blk_cache.specs.Stepping.{FailsBefore, IfDone, IfSink, IfStepDamaged, IfStepDevice, SaysEvicted, SaysPrefix};
 
 use crate::cache::Cache;
 use crate::fault::StepFault;
@@ -62,7 +65,7 @@ impl Cache {
         ensures alone { IfOk result (λ answer. IsRefused answer → Applies (F.told f.old) (F.told f.new) (Note (note_number (self.old.notes + 1)) ∷ [])) }
 
         // A command that the model refuses makes its note alone, also where only the output failed.
-        ensures refused { IfDone result (ForKept (KeepsState self.old) (F.told f.old) (λ state. IsRefused (answer_of (step state moment (request_of command.now)).reply) → Applies (F.told f.old) (F.told f.new) (Note (note_number (self.old.notes + 1)) ∷ []))) }
+        ensures refused { IfDone result (ForKept (KeepsState self.old) (F.told f.old) (λ state. is_refused (step state moment (request_of command.now)) ≡ true → Applies (F.told f.old) (F.told f.new) (Note (note_number (self.old.notes + 1)) ∷ []))) }
 
         // A Flush of a clean object makes its note alone.
         ensures idle { IfDone result (ForKept (KeepsState self.old) (F.told f.old) (λ state. FlushesClean state (request_of command.now) → Applies (F.told f.old) (F.told f.new) (Note (note_number (self.old.notes + 1)) ∷ []))) }
@@ -71,7 +74,7 @@ impl Cache {
         // step was made of a command that the model refuses; or it failed in the reply, after the note, which is the only step of such a command.
         ensures printed { OnOk result (ForKept (KeepsState self.old) (F.told f.old) (λ state. K.written out.new ≡ option_map (λ w. w ++ outcome_text (step state moment (request_of command.now))) (K.written out.old))) }
         ensures front { ForKept (KeepsState self.old) (F.told f.old) (λ state. Appends (K.written out.old) (K.written out.new) (outcome_text (step state moment (request_of command.now)))) }
-        ensures unanswered { IfStepDevice result (FailsBefore (KeepsState self.old) (F.told f.old) (F.told f.new) moment (request_of command.now) (K.written out.old) (K.written out.new) ⊎ ForKept (KeepsState self.old) (F.told f.old) (NotesAlone (F.told f.old) (F.told f.new) moment (request_of command.now) (note_number (self.old.notes + 1)))) }
+        ensures unanswered { IfStepDevice result (FailsBefore (KeepsState self.old) (F.told f.old) (F.told f.new) moment (request_of command.now) (K.written out.old) (K.written out.new) ⊎ ForKept (KeepsState self.old) (F.told f.old) (NotesCommand (F.told f.old) (F.told f.new) (at_moment moment (request_of command.now)) (note_number (self.old.notes + 1)))) }
 
         ensures is_open { IfDone result (ForSome (F.told f.new).files (IsOpen self.new.files)) }
         ensures damaged { IfStepDamaged result (IsFailedCheck self.new.files (F.told f.new)) }

@@ -4,11 +4,10 @@ use Rattle.std.specs.Option.{option_map, ForSome}
 use Rattle.std.proofs.lemmas.List.{append-nil, length-append}
 use Rattle.spec_image.specs.Image.{Image}
 use Rattle.spec_image.specs.Steps.{Note, after}
-use Rattle.spec_image.specs.Told.{Applies, Passes, Stays, Told}
+use Rattle.spec_image.specs.Told.{Applies, Stays, Told}
 use Rattle.spec_image.proofs.Runs.{passes_none}
 use Rattle.blk_io.specs.Streams.{Appends, Readings, later_of}
 use Rattle.blk_model.specs.declared.Answer.{Answer}
-use Rattle.blk_model.specs.declared.Answer.TheVariants as variant
 use Rattle.blk_model.specs.Reply.{answer_of}
 use Rattle.blk_model.specs.Request.{Request}
 use Rattle.blk_model.specs.State.{State}
@@ -17,7 +16,7 @@ use Rattle.blk_script.specs.Reply.{outcome_text, reply_text}
 use Rattle.law_state.specs.Commands.{ForKept, IsNoted, IsStepped, MayStop, note_number}
 use Rattle.spec_run.specs.Script.{is_refusal, is_refused, refusal_of}
 use Rattle.spec_run.specs.Progress.{BreaksOffIn, NotesCommand, StopsAfter}
-use Rattle.spec_run.specs.Run.{Stamped, Turn, clock_after, text_of}
+use Rattle.spec_run.specs.Run.{Stamped, Turn, at_moment, clock_after, text_of}
 use Rattle.spec_run.proofs.CommandStates.{state_after-one}
 use Rattle.spec_run.proofs.Composing.{one_more, some_after, stopped_noted, stopped_part}
 use Rattle.spec_run.proofs.InTurn.{note_exact}
@@ -25,12 +24,8 @@ use Rattle.spec_run.proofs.Replies.{no_less_one, no_more_early, no_more_whole}
 use Rattle.spec_run.proofs.StepFacts.{along_head, true_false}
 use Rattle.blk_cache.specs.declared.fault.StepFault.{StepFault}
 use Rattle.blk_cache.specs.declared.fault.StepFault.TheVariants as fault
-use Rattle.blk_cache.specs.CommandClauses.{IsRefused, RefusesIn}
-use Rattle.blk_cache.specs.Stepping.{FailsBefore, IfDone, IfStepDamaged, IfStepDevice, NotesAlone, evicted_first}
+use Rattle.blk_cache.specs.Stepping.{FailsBefore, IfDone, IfStepDamaged, IfStepDevice, evicted_first}
 use Rattle.blk_run.specs.Playing.{AreStopped, Plays, SoFar, StandsAt, around, asked_turn, has_refused, state_now, with_more}
-
-no_true : false ≡ true → ⊥
-no_true e = cc
 
 -- the number of the next note
 pub next_note : (far : SoFar) (keeps : State → Image → Type 0) (notes left : ℕ) (now : Told) → StandsAt far keeps notes (left + 2) now → note_number (notes + 1) ≡ length far.done + 1
@@ -38,27 +33,6 @@ next_note far keeps notes left now at =
     let few = at.few in
     let noted = at.noted in
     note_exact (notes + 1) (omega (arith, few, noted)) ∙ ap (λ (n : ℕ). n + 1) at.noted
-
--- what the cache calls a refusal is one
-pub is_refusal_told : (answer : Answer) → is_refusal (refusal_of answer) ≡ true → IsRefused answer
-is_refusal_told (variant.Refused why) is = tt
-is_refusal_told variant.Done is = absurd (no_true is)
-is_refusal_told (variant.Bytes count) is = absurd (no_true is)
-is_refusal_told (variant.Wrote count) is = absurd (no_true is)
-is_refusal_told (variant.Size length) is = absurd (no_true is)
-is_refusal_told (variant.Range start length) is = absurd (no_true is)
-is_refusal_told (variant.Listed count) is = absurd (no_true is)
-is_refusal_told (variant.Trimmed count) is = absurd (no_true is)
-is_refusal_told (variant.Totals items bytes) is = absurd (no_true is)
-
--- a command at a moment
-abbrev pub at_moment : ℕ → Request → Stamped
-at_moment moment request = record { moment = moment; request = request }
-
--- a command is noted as the run has it, by what the cache says of a refusal
-pub notes_command : (old new : Told) (moment : ℕ) (request : Request) (number : ℕ) (state : State) → IsNoted old new moment request number state
-    → (RefusesIn moment request state → Applies old new (Note number ∷ [])) → NotesCommand old new (at_moment moment request) number state
-notes_command old new moment request number state noted alone = record { noted = noted; alone = λ is. alone (is_refusal_told (answer_of (step state moment request).reply) is) }
 
 -- a command was done and noted
 pub stands_after : (far : SoFar) (command : Stamped) (keeps_old keeps : State → Image → Type 0) (notes_old notes left : ℕ) (old new : Told) → StandsAt far keeps_old notes_old (left + 2) old
@@ -97,17 +71,16 @@ module _ (far : SoFar) (moment : ℕ) (request : Request) (keeps_old keeps : Sta
 
   -- as the run has it
   both : ForKept keeps_old old (IsNoted old new moment request (note_number (notes_old + 1)))
-      → ForKept keeps_old old (λ state. RefusesIn moment request state → Applies old new (Note (note_number (notes_old + 1)) ∷ []))
+      → ForKept keeps_old old (λ state. is_refused (step state moment request) ≡ true → Applies old new (Note (note_number (notes_old + 1)) ∷ []))
       → NotesCommand old new command (note_number (notes_old + 1)) (state_now far)
   both noted alone =
-      notes_command old new moment request (note_number (notes_old + 1)) (state_now far) (noted at.image at.here (state_now far) at.kept)
-      (alone at.image at.here (state_now far) at.kept)
+      record { noted = noted at.image at.here (state_now far) at.kept; alone = alone at.image at.here (state_now far) at.kept }
 
   pub of_step : (result : Result Answer StepFault) → IfOk result (λ answer. ForKept keeps_old old (λ state. answer ≡ answer_of (step state moment request).reply))
       → IfDone result (ForKept keeps_old old (λ state. ForSome new.files (keeps (step state moment request).state))) → IfDone result (ForKept keeps_old old (IsNoted old new moment request (note_number (notes_old + 1))))
-      → IfDone result (ForKept keeps_old old (λ state. RefusesIn moment request state → Applies old new (Note (note_number (notes_old + 1)) ∷ [])))
+      → IfDone result (ForKept keeps_old old (λ state. is_refused (step state moment request) ≡ true → Applies old new (Note (note_number (notes_old + 1)) ∷ [])))
       → IfDone result (notes ≡ note_number (notes_old + 1)) → OnOk result (ForKept keeps_old old (λ state. w_new ≡ option_map (λ (w : List ℕ). w ++ outcome_text (step state moment request)) w_old))
-      → IfStepDevice result (FailsBefore keeps_old old new moment request w_old w_new ⊎ ForKept keeps_old old (NotesAlone old new moment request (note_number (notes_old + 1))))
+      → IfStepDevice result (FailsBefore keeps_old old new moment request w_old w_new ⊎ ForKept keeps_old old (NotesCommand old new (at_moment moment request) (note_number (notes_old + 1))))
       → (ForSome old.files (λ image. (state : State) × keeps_old state image) → IfStepDamaged result (λ _. old.files ≡ None))
       → Plays result (asked_turn far command ∷ []) far keeps notes left (around old w_old c_old false) (around new w_new c_new (has_refused result))
   of_step (Ok answer) answered kept noted alone counts printed unanswered untold =
@@ -173,7 +146,7 @@ module _ (far : SoFar) (moment : ℕ) (request : Request) (keeps_old keeps : Sta
 
       -- what the cache says of a refusal, where no note was told
       untouched : FailsBefore keeps_old old new moment request w_old w_new → is_refused (step (state_now far) moment request) ≡ true → Stays old new
-      untouched fails is = fails.spares at.image at.here (state_now far) at.kept (is_refusal_told (answer_of (step (state_now far) moment request).reply) is)
+      untouched fails is = fails.spares at.image at.here (state_now far) at.kept is
 
       -- a refused command made no step, whatever else is said of it
       by_refusal : (b : Bool) → is_refused (step (state_now far) moment request) ≡ b → FailsBefore keeps_old old new moment request w_old w_new
@@ -186,11 +159,9 @@ module _ (far : SoFar) (moment : ℕ) (request : Request) (keeps_old keeps : Sta
           }) (fails.says at.image at.here (state_now far) at.kept)
       by_refusal false is fails made = is_noted (record { noted = made; alone = λ again. true_false again is })
 
-      by_note : FailsBefore keeps_old old new moment request w_old w_new ⊎ ForKept keeps_old old (NotesAlone old new moment request (note_number (notes_old + 1))) → IsStepped old new moment request (note_number (notes_old + 1)) (state_now far)
+      by_note : FailsBefore keeps_old old new moment request w_old w_new ⊎ ForKept keeps_old old (NotesCommand old new (at_moment moment request) (note_number (notes_old + 1))) → IsStepped old new moment request (note_number (notes_old + 1)) (state_now far)
           → AreStopped (turn ∷ []) far (around old w_old c_old false) (around new w_new c_new false)
-      by_note (inr made) how =
-          let lone = made at.image at.here (state_now far) at.kept in
-          is_noted (notes_command old new moment request (note_number (notes_old + 1)) (state_now far) lone.noted lone.alone)
+      by_note (inr made) how = is_noted (made at.image at.here (state_now far) at.kept)
       by_note (inl fails) (inr made) = by_refusal (is_refused (step (state_now far) moment request)) refl fails made
       by_note (inl fails) (inl made) = in_part (record { passes = made; untouched = untouched fails }) (fails.says at.image at.here (state_now far) at.kept)
   of_step (Err (fault.Damaged damage)) answered kept noted alone counts printed unanswered untold = no_files (sym at.here ∙ untold (λ image here. (state_now far, subst (λ (i : Image). keeps_old (state_now far) i) (some_same (sym at.here ∙ here)) at.kept)))

@@ -16,6 +16,10 @@ pub record Stamped : Type 0 where
   pub moment : ℕ
   pub request : Request
 
+-- a command at a moment
+abbrev pub at_moment : (moment : ℕ) → Request → Stamped
+at_moment moment request = record { moment = moment; request = request }
+
 -- the outcome of a command in a state
 abbrev pub outcome_in : State → Stamped → Outcome
 outcome_in state command = step state command.moment command.request

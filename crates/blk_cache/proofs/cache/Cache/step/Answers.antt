@@ -1,15 +1,17 @@
-use Rattle.std.proofs.Common.{◌≡◌, ℕ, ◌+◌, None, [], ◌∷◌, refl, sym, subst}
+use Rattle.std.proofs.Common.{◌≡◌, ℕ, ◌+◌, None, [], ◌∷◌, refl, true, sym, subst}
 use Rattle.spec_image.specs.Steps.{Note}
 use Rattle.spec_image.specs.Told.{Applies, Told}
 use Rattle.blk_io.proofs.Carried.{if_damaged_weaker}
-use Rattle.blk_model.specs.Reply.{answer_of}
 use Rattle.blk_model.specs.Request.{request_of}
 use Rattle.blk_model.specs.Step.{step}
 use Rattle.law_state.specs.Commands.{ForKept, IsNoted, IsStepped, note_number}
+use Rattle.spec_run.specs.Progress.{NotesCommand}
+use Rattle.spec_run.specs.Run.{at_moment}
+use Rattle.spec_run.specs.Script.{is_refused}
 use Rattle.blk_object.specs.FailedChecks.{IsFailedCheck}
 use Rattle.blk_cache.specs.CacheKeeping.{KeepsState}
-use Rattle.blk_cache.specs.CommandClauses.{FlushesClean, IsRefused}
-use Rattle.blk_cache.specs.Stepping.{IfStepDamaged, NotesAlone}
+use Rattle.blk_cache.specs.CommandClauses.{FlushesClean}
+use Rattle.blk_cache.specs.Stepping.{IfStepDamaged}
 use Rattle.blk_cache.proofs.Notes.{not-noted, noted-alone, noted-does, noted-ends, noted-keeps, noted-steps, open-on, refused-notes, same-files, clean-notes, quiet-spares}
 use Rattle.blk_cache.proofs.StepEnds.{any-damaged, by-files, damaged-on, failed-before, failed-behind, kept-behind, open-behind}
 use Rattle.blk_cache.proofs.StepTexts.{any-after, prefix-of-whole, prefix-printed, none-before, whole-printed}
@@ -72,7 +74,7 @@ returns-in_err-reply-clause-front g c =
 pub returns-in_err-reply-clause-unanswered : goal.returns-in_err-reply-clause-unanswered
 returns-in_err-reply-clause-unanswered g c =
     failed-behind c.from_residual-in_err-reply.result c.args.self.now (g.F.Folder.told c.args.f.now) (g.F.Folder.told c.reply.new.folder) c.args.moment (request_of c.args.command.now) (note_number (c.args.self.now.notes + 1)) (g.K.Sink.written c.args.out.now) (g.K.Sink.written c.reply.new.out)
-    (subst (λ (t : Told). ForKept (KeepsState c.args.self.now) (g.F.Folder.told c.args.f.now) (NotesAlone (g.F.Folder.told c.args.f.now) t c.args.moment (request_of c.args.command.now) (note_number (c.args.self.now.notes + 1)))) (sym c.in_err-reply.ensures.reads.stays)
+    (subst (λ (t : Told). ForKept (KeepsState c.args.self.now) (g.F.Folder.told c.args.f.now) (NotesCommand (g.F.Folder.told c.args.f.now) t (at_moment c.args.moment (request_of c.args.command.now)) (note_number (c.args.self.now.notes + 1)))) (sym c.in_err-reply.ensures.reads.stays)
     (noted-alone c.args.self.now c.perform.new.self c.note.new.self (g.F.Folder.told c.args.f.now) (g.F.Folder.told c.perform.new.folder) (g.F.Folder.told c.note.new.folder) c.args.moment (request_of c.args.command.now) (note_number (c.args.self.now.notes + 1)) c.in_ok-answer.ensures.stops c.in_ok-answer.answer c.in_ok-answer.ensures.does
     (made c.args.self.now.notes c.perform.new.self.notes (g.F.Folder.told c.perform.new.folder) (g.F.Folder.told c.note.new.folder) c.in_ok-answer.ensures.notes c.in_ok-note.ensures.done) c.in_ok-note.ensures.others c.in_ok-answer.ensures.quiet))
 
@@ -117,7 +119,7 @@ returns-then-failed-clause-noted g c =
 
 pub returns-then-failed-clause-refused : goal.returns-then-failed-clause-refused
 returns-then-failed-clause-refused g c =
-    subst (λ (t : Told). ForKept (KeepsState c.args.self.now) (g.F.Folder.told c.args.f.now) (λ state. IsRefused (answer_of (step state c.args.moment (request_of c.args.command.now)).reply) → Applies (g.F.Folder.told c.args.f.now) t (Note (note_number (c.args.self.now.notes + 1)) ∷ []))) (sym c.in_ok-reply.ensures.reads.stays)
+    subst (λ (t : Told). ForKept (KeepsState c.args.self.now) (g.F.Folder.told c.args.f.now) (λ state. is_refused (step state c.args.moment (request_of c.args.command.now)) ≡ true → Applies (g.F.Folder.told c.args.f.now) t (Note (note_number (c.args.self.now.notes + 1)) ∷ []))) (sym c.in_ok-reply.ensures.reads.stays)
     (refused-notes c.args.self.now c.perform.new.self c.note.new.self (g.F.Folder.told c.args.f.now) (g.F.Folder.told c.perform.new.folder) (g.F.Folder.told c.note.new.folder) c.args.moment (request_of c.args.command.now) (note_number (c.args.self.now.notes + 1)) c.in_ok-answer.ensures.stops c.in_ok-answer.answer c.in_ok-answer.ensures.does
     (made c.args.self.now.notes c.perform.new.self.notes (g.F.Folder.told c.perform.new.folder) (g.F.Folder.told c.note.new.folder) c.in_ok-answer.ensures.notes c.in_ok-note.ensures.done) c.in_ok-note.ensures.others c.in_ok-answer.ensures.quiet)
 
@@ -172,7 +174,7 @@ returns-else-failed-clause-printed g c =
 
 pub returns-else-failed-clause-refused : goal.returns-else-failed-clause-refused
 returns-else-failed-clause-refused g c =
-    subst (λ (t : Told). ForKept (KeepsState c.args.self.now) (g.F.Folder.told c.args.f.now) (λ state. IsRefused (answer_of (step state c.args.moment (request_of c.args.command.now)).reply) → Applies (g.F.Folder.told c.args.f.now) t (Note (note_number (c.args.self.now.notes + 1)) ∷ []))) (sym c.in_ok-reply.ensures.reads.stays)
+    subst (λ (t : Told). ForKept (KeepsState c.args.self.now) (g.F.Folder.told c.args.f.now) (λ state. is_refused (step state c.args.moment (request_of c.args.command.now)) ≡ true → Applies (g.F.Folder.told c.args.f.now) t (Note (note_number (c.args.self.now.notes + 1)) ∷ []))) (sym c.in_ok-reply.ensures.reads.stays)
     (refused-notes c.args.self.now c.perform.new.self c.note.new.self (g.F.Folder.told c.args.f.now) (g.F.Folder.told c.perform.new.folder) (g.F.Folder.told c.note.new.folder) c.args.moment (request_of c.args.command.now) (note_number (c.args.self.now.notes + 1)) c.in_ok-answer.ensures.stops c.in_ok-answer.answer c.in_ok-answer.ensures.does
     (made c.args.self.now.notes c.perform.new.self.notes (g.F.Folder.told c.perform.new.folder) (g.F.Folder.told c.note.new.folder) c.in_ok-answer.ensures.notes c.in_ok-note.ensures.done) c.in_ok-note.ensures.others c.in_ok-answer.ensures.quiet)
 
