@@ -1,5 +1,5 @@
 // The command DoomKey.
-ghost use Rattle.std.specs.Prelude.{◌≡◌, ◌≤◌, ℕ, IfOk, IfSome, IsTrue, None, Ok, OnOk, Some, length, OnErr};
+ghost use Rattle.std.specs.Prelude.{◌≡◌, ◌≤◌, ℕ, IfOk, IfSome, IsTrue, None, Ok, OnOk, Some, length};
 ghost use Rattle.std.specs.Option.{ForSome};
 ghost use Rattle.spec_image.specs.Told.{Passes, Stays, MayWrite};
 ghost use Rattle.blk_io.specs.Faults.{IfDamaged, IfDevice};
@@ -12,11 +12,10 @@ ghost use Rattle.blk_model.specs.declared.Refusal.TheVariants as refusal;
 ghost use Rattle.spec_format.specs.Address.{blocks_256, kind_of};
 ghost use Rattle.blk_disk.specs.Open.{IsOpen};
 ghost use Rattle.blk_disk.specs.Tables.{is_node_among, stands_among};
-ghost use Rattle.law_state.specs.Commands.{Does, MayStopAtEach};
 ghost use Rattle.blk_object.specs.FailedChecks.{IsFailedCheck};
 ghost use Rattle.blk_object.specs.RemovingObjects.{FindsEither};
 ghost use Rattle.blk_cache.specs.CacheKeeping.{HoldsState};
-ghost use Rattle.blk_cache.specs.CommandClauses.{IsRefused, KeepsAny, SparesRefused};
+ghost use Rattle.blk_cache.specs.CommandClauses.{DoneBy, ForCall, IsRefused, KeepsAny, SparedBy, StopsBy};
 ghost use Rattle.blk_cache.specs.Dooming.{ForEachKept};
 
 use crate::cache::Cache;
@@ -36,15 +35,15 @@ impl Cache {
         key: &[u8],
     ) -> Result<Answer, Fault>
         requires is_open { ForSome (F.told folder.old).files (IsOpen self.old.files) }
-        ensures does { (moment : ℕ) → IfOk result (λ answer. Does (HoldsState self.old) (HoldsState self.new) (F.told folder.old) (F.told folder.new) moment (to_doom_key key.now) answer) }
-        ensures stops { (moment : ℕ) → MayStopAtEach (HoldsState self.old) (F.told folder.old) (F.told folder.new) moment (to_doom_key key.now) }
+        ensures does { (moment : ℕ) → ForCall self.old (F.told folder.old) moment (to_doom_key key.now) (DoneBy self.new (F.told folder.new) result) }
+        ensures stops { (moment : ℕ) → ForCall self.old (F.told folder.old) moment (to_doom_key key.now) (StopsBy (F.told folder.new)) }
 
         // A key that is none is refused on every folder, and a refusal does nothing.
         ensures refuses { IsTrue (no_key key.now) → result ≡ Ok (answer.Refused refusal.BadKey) }
         ensures quiet { IfOk result (λ answer. IsRefused answer → Stays (F.told folder.old) (F.told folder.new)) }
         ensures unchanged { IfOk result (λ answer. IsRefused answer → self.new ≡ self.old) }
 
-        ensures spares { (moment : ℕ) → OnErr result (SparesRefused (HoldsState self.old) (F.told folder.old) (F.told folder.new) moment (to_doom_key key.now)) }
+        ensures spares { (moment : ℕ) → ForCall self.old (F.told folder.old) moment (to_doom_key key.now) (SparedBy (F.told folder.new) result) }
         ensures is_open { ForSome (F.told folder.new).files (IsOpen self.new.files) }
         ensures notes { self.new.notes ≡ self.old.notes }
         ensures mark { self.new.mark ≡ self.old.mark }

@@ -9,10 +9,10 @@ ghost use Rattle.blk_io.specs.declared.folder.FileId.TheVariants as names;
 ghost use Rattle.blk_model.specs.Holding.{rows};
 ghost use Rattle.blk_model.specs.Request.{to_list};
 ghost use Rattle.blk_script.specs.Reply.{row_line};
-ghost use Rattle.law_state.specs.Commands.{Does, ForKept};
+ghost use Rattle.law_state.specs.Commands.{ForKept};
 ghost use Rattle.blk_object.specs.FailedChecks.{IsFailedCheck};
 ghost use Rattle.blk_cache.specs.CacheKeeping.{HoldsState};
-ghost use Rattle.blk_cache.specs.CommandClauses.{IsRefused, KeepsAny};
+ghost use Rattle.blk_cache.specs.CommandClauses.{DoneBy, ForCall, IsRefused, KeepsAny};
 ghost use Rattle.blk_cache.specs.Listing.{OnlyRoomChanges};
 ghost use Rattle.blk_evict.specs.RoomPrinting.{FailsWhereItRose, PrintsUnlessFailed, PrintsInPart};
 
@@ -26,7 +26,7 @@ use blk_record::IndexHead;
 impl Cache {
     /// How many items the LRU list has, by one folder call. Nothing is written, and nothing is refused.
     pub(crate) fn list<F: Folder>(&self, folder: &mut F) -> Result<Answer, Fault>
-        ensures does { (moment : ℕ) → IfOk result (λ answer. Does (HoldsState self.now) (HoldsState self.now) (F.told folder.old) (F.told folder.new) moment to_list answer) }
+        ensures does { (moment : ℕ) → ForCall self.now (F.told folder.old) moment to_list (DoneBy self.now (F.told folder.new) result) }
         ensures reads { ReadsOnly F.told F.faults folder.old folder.new (IfDevice result) }
         ensures passes { IfOk result (λ given. IsRefused given → ⊥) }
 
