@@ -1,10 +1,13 @@
 -- Clauses of commands of a cache, beside the model's answer and the next state.
 use Rattle.std.specs.Prelude.{◌≡◌, ◌⊎◌, ℕ, ◌+◌, ◌-◌, ◌^◌, Bool, List, [], ◌∷◌, IfOk, OnErr, Result, if◌then◌else◌, is_some, min, true}
+use Rattle.std.specs.Option.{ForSome}
 use Rattle.std.specs.declared.option.Option.{Option}
+use Rattle.std.specs.declared.option.Option.TheVariants.{None}
 use Rattle.spec_image.specs.Image.{Image}
 use Rattle.spec_image.specs.Told.{Stays, Told}
 use Rattle.blk_io.specs.declared.fault.Damage.{Damage}
 use Rattle.blk_io.specs.declared.fault.Fault.{Fault}
+use Rattle.blk_io.specs.Faults.{IfDamaged}
 use Rattle.blk_model.specs.Request.{Request, to_flush, to_sparse_range, to_sparse_read, to_sparse_write}
 use Rattle.blk_model.specs.State.{Object, State}
 use Rattle.blk_model.specs.declared.Answer.{Answer}
@@ -35,6 +38,16 @@ SparesRefused keeps old new moment request = ForKept keeps old (λ state. is_ref
 abbrev pub KeepsAny : Cache → Image → Type 0
 KeepsAny cache image = (state : State) × HoldsState cache state image
 
+-- Failed checks.
+
+-- where the answer is a failed check, the folder is opaque
+abbrev pub OpaqueIfDamaged : {A : Type 0} → Result A Fault → Told → Type 0
+OpaqueIfDamaged result told = IfDamaged result (λ _. told.files ≡ None)
+
+-- where P holds of an observable folder, the answer is no failed check
+abbrev pub UndamagedWhere : {A : Type 0} → Result A Fault → Told → (Image → Type 0) → Type 0
+UndamagedWhere result told P = ForSome told.files P → OpaqueIfDamaged result told
+
 -- What a call does for a command: each of these takes what the call left first, and then the cache and the folder as it found them, the moment and the request.
 
 -- on an Ok the command is done, whatever state the cache kept: the answer is the model's, and the new cache keeps the state after it
@@ -48,6 +61,10 @@ StopsBy now cache told moment request = MayStopAtEach (HoldsState cache) told no
 -- on an Err no step was made where the model refuses the command
 abbrev pub SparedBy : (now : Told) → Result Answer Fault → Cache → Told → (moment : ℕ) → Request → Type 0
 SparedBy now result cache told moment request = OnErr result (SparesRefused (HoldsState cache) told now moment request)
+
+-- where the cache keeps a state of an observable folder, the answer is no failed check
+abbrev pub UndamagedBy : Result Answer Fault → Cache → Told → (moment : ℕ) → Request → Type 0
+UndamagedBy result cache told moment request = UndamagedWhere result told (KeepsAny cache)
 
 -- P, one of these, holds of a command
 abbrev pub ForCall : Cache → Told → (moment : ℕ) → Request → (Cache → Told → ℕ → Request → Type 0) → Type 0

@@ -13,7 +13,7 @@ ghost use Rattle.blk_handles.specs.Bindings.{AreShared, binding_of, is_open, ope
 ghost use Rattle.blk_object.specs.Ending.{Cleans, FreesAll, MayEndObject};
 ghost use Rattle.blk_object.specs.FailedChecks.{IsFailedCheck};
 ghost use Rattle.blk_cache.specs.Closing.{CountsClosed};
-ghost use Rattle.blk_cache.specs.CommandClauses.{DoneBy, ForCall, IsRefused, KeepsAny, OnlyNamesChange, SparedBy, StopsBy};
+ghost use Rattle.blk_cache.specs.CommandClauses.{DoneBy, ForCall, IsRefused, KeepsAny, OnlyNamesChange, SparedBy, StopsBy, UndamagedWhere};
 
 use crate::cache::Cache;
 use blk_evict::read_charge;
@@ -52,7 +52,7 @@ impl Cache {
         ensures damaged { IfDamaged result (IsFailedCheck self.new.files (F.told folder.new)) }
 
         // An observable folder reports no corruption where the cache keeps a state.
-        ensures untold { ForSome (F.told folder.old).files (KeepsAny self.old) → IfDamaged result (λ _. (F.told folder.old).files ≡ None) }
+        ensures untold { UndamagedWhere result (F.told folder.old) (KeepsAny self.old) }
         ensures writes { MayWrite F.told F.faults folder.old folder.new (IfDevice result) }
     {
         if self.handles.object(handle).is_none() {
@@ -100,7 +100,7 @@ impl Cache {
         ensures counts { CountsClosed self.old self.new object.now.doomed charge }
         ensures is_open { ForSome (F.told folder.new).files (IsOpen self.new.files) }
         ensures damaged { IfDamaged result (IsFailedCheck self.new.files (F.told folder.new)) }
-        ensures untold { ForSome (F.told folder.old).files (MayEndObject object.now.doomed object.now.entry object.now.node) → IfDamaged result (λ _. (F.told folder.old).files ≡ None) }
+        ensures untold { UndamagedWhere result (F.told folder.old) (MayEndObject object.now.doomed object.now.entry object.now.node) }
         ensures writes { MayWrite F.told F.faults folder.old folder.new (IfDevice result) }
     {
         self.count_closed(object.doomed, charge);

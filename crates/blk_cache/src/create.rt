@@ -20,7 +20,7 @@ ghost use Rattle.law_state.specs.Commands.{Does, IsDone, MayStop, MayStopAtEach}
 ghost use Rattle.blk_object.specs.FailedChecks.{IsFailedCheck};
 ghost use Rattle.blk_object.specs.Making.{CanHaveNew};
 ghost use Rattle.blk_cache.specs.CacheKeeping.{HoldsState};
-ghost use Rattle.blk_cache.specs.CommandClauses.{DoneBy, ForCall, IsRefused, KeepsAny, SparedBy, StopsBy, open_refusal};
+ghost use Rattle.blk_cache.specs.CommandClauses.{DoneBy, ForCall, IsRefused, KeepsAny, SparedBy, StopsBy, UndamagedBy, UndamagedWhere, open_refusal};
 ghost use Rattle.blk_cache.specs.Creating.{CountsOneMore, HasRoomFor, IsNotRefused, IsReadyForSome, IsReadyToCreate, KeepsWithRoom, WantsRoomAlone, WhereNotRefused, WhereWantsRoom, create_refusal};
 ghost use Rattle.blk_evict.specs.Looking.{IsLookUpDamage};
 ghost use Rattle.blk_evict.specs.RoomPrinting.{FailsWhereItRose};
@@ -74,7 +74,7 @@ impl Cache {
         ensures damaged { IfDamaged result (IsFailedCheck self.new.files (F.told folder.new)) }
 
         // An observable folder reports no corruption where the cache keeps a state.
-        ensures untold { ForSome (F.told folder.old).files (KeepsAny self.old) → IfDamaged result (λ _. (F.told folder.old).files ≡ None) }
+        ensures untold { UndamagedWhere result (F.told folder.old) (KeepsAny self.old) }
         ensures writes { MayWrite F.told F.faults folder.old folder.new (IfDevice result) }
         ensures sink_later { GoesOn K.is K.faults out.old out.new }
     {
@@ -120,7 +120,7 @@ impl Cache {
         ensures notes { self.new.notes ≡ self.old.notes }
         ensures mark { self.new.mark ≡ self.old.mark }
         ensures damaged { IfDamaged result (IsFailedCheck self.new.files (F.told folder.new)) }
-        ensures untold { WantsRoomAlone self.old (F.told folder.old) moment handle key.now → ForSome (F.told folder.old).files (KeepsAny self.old) → IfDamaged result (λ _. (F.told folder.old).files ≡ None) }
+        ensures untold { WhereWantsRoom self.old (F.told folder.old) moment handle key.now (UndamagedBy result) }
         ensures writes { MayWrite F.told F.faults folder.old folder.new (IfDevice result) }
         ensures sink_later { GoesOn K.is K.faults out.old out.new }
     {
@@ -177,7 +177,7 @@ impl Cache {
         ensures notes { self.new.notes ≡ self.old.notes }
         ensures mark { self.new.mark ≡ self.old.mark }
         ensures damaged { IfDamaged result (IsFailedCheck self.new.files (F.told folder.new)) }
-        ensures untold { IsNotRefused self.old (F.told folder.old) moment handle key.now → ForSome (F.told folder.old).files (KeepsAny self.old) → IfDamaged result (λ _. (F.told folder.old).files ≡ None) }
+        ensures untold { WhereNotRefused self.old (F.told folder.old) moment handle key.now (UndamagedBy result) }
         ensures writes { MayWrite F.told F.faults folder.old folder.new (IfDevice result) }
         ensures sink_later { GoesOn K.is K.faults out.old out.new }
     {
@@ -208,7 +208,7 @@ impl Cache {
         ensures mark { self.new.mark ≡ self.old.mark }
         ensures is_open { OnOk result (ForSome (F.told folder.new).files (IsOpen self.new.files)) }
         ensures damaged { IfDamaged result (IsFailedCheck self.new.files (F.told folder.new)) }
-        ensures untold { ForSome (F.told folder.old).files (IsReadyForSome self.old handle key.now) → IfDamaged result (λ _. (F.told folder.old).files ≡ None) }
+        ensures untold { UndamagedWhere result (F.told folder.old) (IsReadyForSome self.old handle key.now) }
         ensures writes { MayWrite F.told F.faults folder.old folder.new (IfDevice result) }
     {
         self.make_object(folder, handle, key, moment)?;
@@ -247,7 +247,7 @@ impl Cache {
         ensures damaged { IfDamaged result (IsFailedCheck self.new.files (F.told folder.new)) }
 
         // An observable folder reports no corruption where the cache keeps such a state.
-        ensures untold { ForSome (F.told folder.old).files (KeepsWithRoom self.old handle key.now) → IfDamaged result (λ _. (F.told folder.old).files ≡ None) }
+        ensures untold { UndamagedWhere result (F.told folder.old) (KeepsWithRoom self.old handle key.now) }
         ensures writes { MayWrite F.told F.faults folder.old folder.new (IfDevice result) }
     {
         let made = make_entry(folder, &mut self.files, key, self.mark, moment)?;
@@ -278,7 +278,7 @@ impl Cache {
 
         // An observable folder reports no corruption where the cache keeps a state.
         ensures damaged { IfDamaged result (IsLookUpDamage self.now.files (F.told folder.old) key.now) }
-        ensures untold { ForSome (F.told folder.old).files (IsOpen self.now.files) → ForSome (F.told folder.old).files (KeepsAny self.now) → IfDamaged result (λ _. (F.told folder.old).files ≡ None) }
+        ensures untold { ForSome (F.told folder.old).files (IsOpen self.now.files) → UndamagedWhere result (F.told folder.old) (KeepsAny self.now) }
     {
         if let Some(why) = self.refuses_open(handle, key) {
             return Ok(Some(why));

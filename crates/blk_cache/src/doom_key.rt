@@ -1,5 +1,5 @@
 // The command DoomKey.
-ghost use Rattle.std.specs.Prelude.{◌≡◌, ◌≤◌, ℕ, IfOk, IfSome, IsTrue, None, Ok, OnOk, Some, length};
+ghost use Rattle.std.specs.Prelude.{◌≡◌, ◌≤◌, ℕ, IfOk, IfSome, IsTrue, Ok, OnOk, Some, length};
 ghost use Rattle.std.specs.Option.{ForSome};
 ghost use Rattle.spec_image.specs.Told.{Passes, Stays, MayWrite};
 ghost use Rattle.blk_io.specs.Faults.{IfDamaged, IfDevice};
@@ -15,7 +15,7 @@ ghost use Rattle.blk_disk.specs.Tables.{is_node_among, stands_among};
 ghost use Rattle.blk_object.specs.FailedChecks.{IsFailedCheck};
 ghost use Rattle.blk_object.specs.RemovingObjects.{FindsEither};
 ghost use Rattle.blk_cache.specs.CacheKeeping.{HoldsState};
-ghost use Rattle.blk_cache.specs.CommandClauses.{DoneBy, ForCall, IsRefused, KeepsAny, SparedBy, StopsBy};
+ghost use Rattle.blk_cache.specs.CommandClauses.{DoneBy, ForCall, IsRefused, KeepsAny, OpaqueIfDamaged, SparedBy, StopsBy, UndamagedWhere};
 ghost use Rattle.blk_cache.specs.Dooming.{ForEachKept};
 
 use crate::cache::Cache;
@@ -52,7 +52,7 @@ impl Cache {
         ensures damaged { IfDamaged result (IsFailedCheck self.new.files (F.told folder.new)) }
 
         // An observable folder reports no corruption where the cache keeps a state.
-        ensures untold { ForSome (F.told folder.old).files (KeepsAny self.old) → IfDamaged result (λ _. (F.told folder.old).files ≡ None) }
+        ensures untold { UndamagedWhere result (F.told folder.old) (KeepsAny self.old) }
         ensures writes { MayWrite F.told F.faults folder.old folder.new (IfDevice result) }
     {
         if is_no_key(key) {
@@ -86,7 +86,7 @@ impl Cache {
         ensures notes { self.new.notes ≡ self.old.notes }
         ensures mark { self.new.mark ≡ self.old.mark }
         ensures damaged { IfDamaged result (IsFailedCheck self.new.files (F.told folder.new)) }
-        ensures untold { ForSome (F.told folder.old).files (λ from. ForEachKept self.old key.now target.now from (λ state number object. IfDamaged result (λ _. (F.told folder.old).files ≡ None))) }
+        ensures untold { ForSome (F.told folder.old).files (λ from. ForEachKept self.old key.now target.now from (λ state number object. OpaqueIfDamaged result (F.told folder.old))) }
         ensures writes { MayWrite F.told F.faults folder.old folder.new (IfDevice result) }
     {
         let entry = target.found.entry;

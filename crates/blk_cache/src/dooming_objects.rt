@@ -16,6 +16,7 @@ ghost use Rattle.law_state.specs.Keeping.{KeepsUncounted};
 ghost use Rattle.blk_object.specs.FailedChecks.{IsFailedCheck};
 ghost use Rattle.blk_object.specs.RemovingObjects.{FindsEither};
 ghost use Rattle.blk_cache.specs.DoomingObjects.{ForEachOpenAt, ForEachDoomTarget, ForEachWithKey, IsDoomed, IsDoomTarget, has_index};
+ghost use Rattle.blk_cache.specs.CommandClauses.{OpaqueIfDamaged, UndamagedWhere};
 ghost use Rattle.blk_evict.specs.Looking.{IsLookUpDamage, KeepsSomeState};
 ghost use Rattle.blk_evict.specs.NameBuffer.{name_buffer_len};
 ghost use Rattle.blk_sparse.specs.Parents.{ForEachParent, IsGoneWhole, IsGroupTold};
@@ -56,7 +57,7 @@ pub fn find_target<F: Folder>(
     ensures stands_before { IfOk result (λ answer. IfSome answer (λ target. IfSome target.found.before (λ before. IsTrue (stands_among files.now before)))) }
     ensures reads { ReadsOnly F.told F.faults folder.old folder.new (IfDevice result) }
     ensures damaged { IfDamaged result (IsLookUpDamage files.now (F.told folder.old) key.now) }
-    ensures untold { ForSome (F.told folder.old).files (IsOpen files.now) → ForSome (F.told folder.old).files KeepsSomeState → IfDamaged result (λ _. (F.told folder.old).files ≡ None) }
+    ensures untold { ForSome (F.told folder.old).files (IsOpen files.now) → UndamagedWhere result (F.told folder.old) KeepsSomeState }
 {
     let Some(found) = find(folder, files, key, false)? else {
         return Ok(None);
@@ -89,7 +90,7 @@ pub fn doom_named<F: Folder>(
     ensures stops { ForSome (F.told folder.old).files (λ from. ForEachOpenAt node entry from (λ state layout number object. Passes (F.told folder.old) (F.told folder.new) (FindsEither state (doomed number state (Some object))))) }
     ensures is_open { ForSome (F.told folder.new).files (IsOpen files.now) }
     ensures damaged { IfDamaged result (IsFailedCheck files.now (F.told folder.new)) }
-    ensures untold { ForSome (F.told folder.old).files (λ from. ForEachOpenAt node entry from (λ state layout number object. IfDamaged result (λ _. (F.told folder.old).files ≡ None))) }
+    ensures untold { ForSome (F.told folder.old).files (λ from. ForEachOpenAt node entry from (λ state layout number object. OpaqueIfDamaged result (F.told folder.old))) }
     ensures writes { MayWrite F.told F.faults folder.old folder.new (IfDevice result) }
 {
     let named = read_name(folder, files, entry, name)?;
@@ -137,7 +138,7 @@ pub fn doom_target<F: Folder>(
 
     ensures is_open { ForSome (F.told folder.new).files (IsOpen files.now) }
     ensures damaged { IfDamaged result (IsFailedCheck files.now (F.told folder.new)) }
-    ensures untold { ForSome (F.told folder.old).files (λ from. ForEachWithKey is_held key.now target.now from (λ state layout number object. IfDamaged result (λ _. (F.told folder.old).files ≡ None))) }
+    ensures untold { ForSome (F.told folder.old).files (λ from. ForEachWithKey is_held key.now target.now from (λ state layout number object. OpaqueIfDamaged result (F.told folder.old))) }
     ensures writes { MayWrite F.told F.faults folder.old folder.new (IfDevice result) }
 {
     if has_index(target.kind) {
@@ -172,7 +173,7 @@ fn doom_without_index<F: Folder>(
     ensures stops { ForSome (F.told folder.old).files (λ from. ForEachDoomTarget is_held target.now from (λ state layout number object. Passes (F.told folder.old) (F.told folder.new) (FindsEither state (doomed number state (Some object))))) }
     ensures is_open { ForSome (F.told folder.new).files (IsOpen files.now) }
     ensures damaged { IfDamaged result (IsFailedCheck files.now (F.told folder.new)) }
-    ensures untold { ForSome (F.told folder.old).files (λ from. ForEachDoomTarget is_held target.now from (λ state layout number object. IfDamaged result (λ _. (F.told folder.old).files ≡ None))) }
+    ensures untold { ForSome (F.told folder.old).files (λ from. ForEachDoomTarget is_held target.now from (λ state layout number object. OpaqueIfDamaged result (F.told folder.old))) }
     ensures writes { MayWrite F.told F.faults folder.old folder.new (IfDevice result) }
 {
     if is_held {
@@ -207,7 +208,7 @@ fn doom_with_index<F: Folder>(
     ensures stops { ForSome (F.told folder.old).files (λ from. ForEachWithKey is_held key.now target.now from (λ state layout number object. Passes (F.told folder.old) (F.told folder.new) (FindsEither state (doomed number state (Some object))))) }
     ensures is_open { ForSome (F.told folder.new).files (IsOpen files.now) }
     ensures damaged { IfDamaged result (IsFailedCheck files.now (F.told folder.new)) }
-    ensures untold { ForSome (F.told folder.old).files (λ from. ForEachWithKey is_held key.now target.now from (λ state layout number object. IfDamaged result (λ _. (F.told folder.old).files ≡ None))) }
+    ensures untold { ForSome (F.told folder.old).files (λ from. ForEachWithKey is_held key.now target.now from (λ state layout number object. OpaqueIfDamaged result (F.told folder.old))) }
     ensures writes { MayWrite F.told F.faults folder.old folder.new (IfDevice result) }
 {
     if is_held {
@@ -250,7 +251,7 @@ fn remove_with_index<F: Folder>(
     ensures stops { ForSome (F.told folder.old).files (λ from. ForEachParent key.now node found.now.entry found.now.before from (λ state layout unlinked number object. Passes (F.told folder.old) (F.told folder.new) (FindsEither state (doomed number state (Some object))))) }
     ensures is_open { ForSome (F.told folder.new).files (IsOpen files.now) }
     ensures damaged { IfDamaged result (IsFailedCheck files.now (F.told folder.new)) }
-    ensures untold { ForSome (F.told folder.old).files (λ from. ForEachParent key.now node found.now.entry found.now.before from (λ state layout unlinked number object. IfDamaged result (λ _. (F.told folder.old).files ≡ None))) }
+    ensures untold { ForSome (F.told folder.old).files (λ from. ForEachParent key.now node found.now.entry found.now.before from (λ state layout unlinked number object. OpaqueIfDamaged result (F.told folder.old))) }
     ensures writes { MayWrite F.told F.faults folder.old folder.new (IfDevice result) }
 {
     let owned = read_owned(folder, files, found.entry)?;

@@ -1,7 +1,6 @@
 // The command List, and the rows that it shows.
-ghost use Rattle.std.specs.Prelude.{◌≡◌, ℕ, IfOk, None, OnOk};
+ghost use Rattle.std.specs.Prelude.{ℕ, IfOk, OnOk};
 ghost use Rattle.std.specs.List.{flat_map};
-ghost use Rattle.std.specs.Option.{ForSome};
 ghost use Rattle.spec_image.specs.Told.{ReadsOnly};
 ghost use Rattle.blk_io.specs.Faults.{IfDamaged, IfDevice, IsShort};
 ghost use Rattle.blk_io.specs.Streams.{GoesOn};
@@ -12,7 +11,7 @@ ghost use Rattle.blk_script.specs.Reply.{row_line};
 ghost use Rattle.law_state.specs.Commands.{ForKept};
 ghost use Rattle.blk_object.specs.FailedChecks.{IsFailedCheck};
 ghost use Rattle.blk_cache.specs.CacheKeeping.{HoldsState};
-ghost use Rattle.blk_cache.specs.CommandClauses.{DoneBy, ForCall, IsRefused, KeepsAny};
+ghost use Rattle.blk_cache.specs.CommandClauses.{DoneBy, ForCall, IsRefused, KeepsAny, UndamagedWhere};
 ghost use Rattle.blk_cache.specs.Listing.{OnlyRoomChanges};
 ghost use Rattle.blk_evict.specs.RoomPrinting.{FailsWhereItRose, PrintsUnlessFailed, PrintsInPart};
 
@@ -33,7 +32,7 @@ impl Cache {
         // Too few bytes, which an observable folder doesn't give where the cache keeps a state.
         ensures damaged { IfDamaged result (IsShort (F.told folder.old) names.Index IndexHead.SIZES 4) }
         ensures cause { IfDamaged result (IsFailedCheck self.now.files (F.told folder.new)) }
-        ensures untold { ForSome (F.told folder.old).files (KeepsAny self.now) → IfDamaged result (λ _. (F.told folder.old).files ≡ None) }
+        ensures untold { UndamagedWhere result (F.told folder.old) (KeepsAny self.now) }
     {
         let count = word(folder, IndexHead::SIZES)?;
         Ok(Answer::Listed(u64::from(count)))
@@ -56,7 +55,7 @@ impl Cache {
         ensures others { OnlyRoomChanges self.old self.new }
         ensures reads { ReadsOnly F.told F.faults folder.old folder.new (IfDevice result) }
         ensures damaged { IfDamaged result (IsFailedCheck self.new.files (F.told folder.new)) }
-        ensures untold { ForSome (F.told folder.old).files (KeepsAny self.old) → IfDamaged result (λ _. (F.told folder.old).files ≡ None) }
+        ensures untold { UndamagedWhere result (F.told folder.old) (KeepsAny self.old) }
         ensures later_out { GoesOn K.is K.faults out.old out.new }
     {
         print_items(folder, &self.files, &mut self.name, out, failed)

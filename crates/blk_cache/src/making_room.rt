@@ -13,7 +13,7 @@ ghost use Rattle.blk_disk.specs.Open.{IsOpen};
 ghost use Rattle.law_state.specs.Commands.{ForKept};
 ghost use Rattle.blk_object.specs.FailedChecks.{IsFailedCheck};
 ghost use Rattle.blk_cache.specs.CacheKeeping.{HoldsState};
-ghost use Rattle.blk_cache.specs.CommandClauses.{KeepsAny};
+ghost use Rattle.blk_cache.specs.CommandClauses.{KeepsAny, UndamagedWhere};
 ghost use Rattle.blk_cache.specs.Covering.{ForCovered, KeepsCovered};
 ghost use Rattle.blk_cache.specs.Evicting.{IsEvicting, OnlyItemsChange};
 ghost use Rattle.blk_cache.specs.MakingRoom.{ForRoom, says_full};
@@ -73,7 +73,7 @@ impl Cache {
         ensures damaged { IfDamaged result (IsFailedCheck self.new.files (F.told folder.new)) }
 
         // An observable folder reports no corruption where the cache keeps a state.
-        ensures untold { ForSome (F.told folder.old).files (KeepsAny self.old) → IfDamaged result (λ _. (F.told folder.old).files ≡ None) }
+        ensures untold { UndamagedWhere result (F.told folder.old) (KeepsAny self.old) }
         ensures silent { (F.told folder.old).files ≡ None → (F.told folder.new).files ≡ None }
         ensures later { F.faults folder.old ≤ F.faults folder.new }
         ensures sink_later { GoesOn K.is K.faults out.old out.new }
@@ -123,7 +123,7 @@ impl Cache {
         ensures damaged { IfDamaged result (IsFailedCheck self.new.files (F.told folder.new)) }
 
         // An observable folder reports no corruption where the cache keeps a state with these parts in range.
-        ensures untold { ForSome (F.told folder.old).files (KeepsCovered self.old parts.now) → IfDamaged result (λ _. (F.told folder.old).files ≡ None) }
+        ensures untold { UndamagedWhere result (F.told folder.old) (KeepsCovered self.old parts.now) }
         ensures silent { (F.told folder.old).files ≡ None → (F.told folder.new).files ≡ None }
         ensures later { F.faults folder.old ≤ F.faults folder.new }
         ensures sink_later { GoesOn K.is K.faults out.old out.new }
@@ -170,7 +170,7 @@ impl Cache {
         ensures damaged { IfDamaged result (IsFailedCheck self.new.files (F.told folder.new)) }
 
         // An observable folder reports no corruption where the cache keeps a state with these parts in range.
-        ensures untold { ForSome (F.told folder.old).files (KeepsCovered self.old parts.now) → IfDamaged result (λ _. (F.told folder.old).files ≡ None) }
+        ensures untold { UndamagedWhere result (F.told folder.old) (KeepsCovered self.old parts.now) }
         ensures writes { MayWrite F.told F.faults folder.old folder.new (IfDevice result) }
         ensures sink_later { GoesOn K.is K.faults out.old out.new }
     {

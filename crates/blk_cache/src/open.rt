@@ -10,7 +10,7 @@ ghost use Rattle.blk_disk.specs.Open.{IsOpen};
 ghost use Rattle.blk_disk.specs.Tables.{is_node_among, is_record_among};
 ghost use Rattle.blk_handles.specs.Bindings.{AreShared, binding_for, binding_of, is_open, open_with};
 ghost use Rattle.blk_object.specs.FailedChecks.{IsFailedCheck};
-ghost use Rattle.blk_cache.specs.CommandClauses.{DoneBy, ForCall, IsOpenDamage, IsRefused, KeepsAny, OnlyNamesChange, SparedBy, StopsBy, charged_with, open_refusal};
+ghost use Rattle.blk_cache.specs.CommandClauses.{DoneBy, ForCall, IsOpenDamage, IsRefused, KeepsAny, OnlyNamesChange, SparedBy, StopsBy, UndamagedWhere, charged_with, open_refusal};
 
 use crate::cache::Cache;
 use blk_addr::Addr;
@@ -51,7 +51,7 @@ impl Cache {
         // An observable folder reports no corruption where the cache keeps a state.
         ensures damaged { IfDamaged result (IsOpenDamage self.old.files (F.told folder.old) (F.told folder.new) key.now) }
         ensures cause { IfDamaged result (IsFailedCheck self.new.files (F.told folder.new)) }
-        ensures untold { ForSome (F.told folder.old).files (KeepsAny self.old) → IfDamaged result (λ _. (F.told folder.old).files ≡ None) }
+        ensures untold { UndamagedWhere result (F.told folder.old) (KeepsAny self.old) }
         ensures writes { MayWrite F.told F.faults folder.old folder.new (IfDevice result) }
     {
         if let Some(why) = self.refuses_open(handle, key) {

@@ -14,6 +14,7 @@ ghost use Rattle.law_recovery.specs.MendedChanges.{IsMidRepair};
 ghost use Rattle.blk_scan.specs.Scans.{StandAmong};
 ghost use Rattle.blk_cache.specs.Opened.{IsJustMade, IsOpenedAs, IsOpeningDamage};
 ghost use Rattle.blk_cache.specs.Opening.{IfOpenDamaged, IfOpenDevice, IfOpenMemory, OpensFolder, OpensOrBreaksOff, StandsOpened, WasMadeAt};
+ghost use Rattle.blk_cache.specs.CommandClauses.{OpaqueIfDamaged, UndamagedWhere};
 
 use crate::fault::OpenFault;
 use blk_disk::BlockFiles;
@@ -65,7 +66,7 @@ fn open_new<F: Folder>(alloc: Global, folder: &mut F, moment: u64) -> Result<Ope
     ensures stops { ForSome (F.told folder.old).files (λ from. OpensOrBreaksOff from (F.told folder.old) (F.told folder.new)) }
     ensures last { OnOk result (ForSome (F.told folder.old).files (λ from. OpensFolder from (F.told folder.old) (F.told folder.new))) }
     ensures damaged { IfDamaged result (IsOpeningDamage (F.told folder.new)) }
-    ensures untold { IfDamaged result (λ _. (F.told folder.old).files ≡ None) }
+    ensures untold { OpaqueIfDamaged result (F.told folder.old) }
     ensures writes { MayWrite F.told F.faults folder.old folder.new (IfDevice result) }
 {
     make(folder, moment)?;
@@ -80,7 +81,7 @@ fn open_made<F: Folder>(alloc: Global, folder: &mut F) -> Result<Opened, Fault>
     ensures stops { ForSome (F.told folder.old).files (λ from. IsJustMade from → EndsOrBreaksOff (F.told folder.old) (F.told folder.new) (IsMidRepair from) (StandsOpened from)) }
     ensures last { OnOk result (ForSome (F.told folder.old).files (λ from. IsJustMade from → EndsWithCrashWord (F.told folder.old) (F.told folder.new) (IsMidRepair from) (StandsOpened from))) }
     ensures damaged { IfDamaged result (IsOpeningDamage (F.told folder.new)) }
-    ensures untold { ForSome (F.told folder.old).files IsJustMade → IfDamaged result (λ _. (F.told folder.old).files ≡ None) }
+    ensures untold { UndamagedWhere result (F.told folder.old) IsJustMade }
     ensures writes { MayWrite F.told F.faults folder.old folder.new (IfDevice result) }
 {
     let files = BlockFiles::load(folder)?;
@@ -132,7 +133,7 @@ fn mend<F: Folder>(folder: &mut F, files: BlockFiles, scan: &Scan) -> Result<Ope
     ensures stops { ForSome (F.told folder.old).files (λ from. IsRepairable scan.now from → EndsOrBreaksOff (F.told folder.old) (F.told folder.new) (IsMidRepair from) (StandsOpened from)) }
     ensures last { OnOk result (ForSome (F.told folder.old).files (λ from. IsRepairable scan.now from → EndsWithCrashWord (F.told folder.old) (F.told folder.new) (IsMidRepair from) (StandsOpened from))) }
     ensures damaged { IfDamaged result (IsOpeningDamage (F.told folder.new)) }
-    ensures untold { ForSome (F.told folder.old).files (IsRepairable scan.now) → IfDamaged result (λ _. (F.told folder.old).files ≡ None) }
+    ensures untold { UndamagedWhere result (F.told folder.old) (IsRepairable scan.now) }
     ensures writes { MayWrite F.told F.faults folder.old folder.new (IfDevice result) }
 {
     let mut files = files;

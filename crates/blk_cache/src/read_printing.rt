@@ -1,11 +1,11 @@
 // The bytes of a Read are printed.
-ghost use Rattle.std.specs.Prelude.{◌≡◌, ◌<◌, ◌^◌, None, OnOk};
-ghost use Rattle.std.specs.Option.{ForSome};
+ghost use Rattle.std.specs.Prelude.{◌≡◌, ◌<◌, ◌^◌, OnOk};
 ghost use Rattle.spec_image.specs.Told.{ReadsOnly};
 ghost use Rattle.blk_io.specs.Faults.{IfDamaged, IfDevice};
 ghost use Rattle.blk_io.specs.Streams.{GoesOn};
 ghost use Rattle.blk_object.specs.FailedChecks.{IsFailedCheck};
 ghost use Rattle.blk_cache.specs.ReadPrinting.{ForRange, KeepsRange, can_be_read};
+ghost use Rattle.blk_cache.specs.CommandClauses.{UndamagedWhere};
 ghost use Rattle.blk_evict.specs.RoomPrinting.{FailsWhereItRose, PrintsUnlessFailed, PrintsInPart};
 
 use crate::asking::STREAMS;
@@ -42,7 +42,7 @@ impl Cache {
 
         // An observable folder reports no corruption where the cache keeps a state with so many bytes.
         ensures damaged { IfDamaged result (IsFailedCheck self.now.files (F.told folder.new)) }
-        ensures untold { ForSome (F.told folder.old).files (KeepsRange self.now range) → IfDamaged result (λ _. (F.told folder.old).files ≡ None) }
+        ensures untold { UndamagedWhere result (F.told folder.old) (KeepsRange self.now range) }
         ensures later_out { GoesOn K.is K.faults out.old out.new }
     {
         let Some(object) = self.handles.object(range.handle) else {

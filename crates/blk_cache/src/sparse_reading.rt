@@ -1,12 +1,12 @@
 // The commands SparseRead and SparseRange.
-ghost use Rattle.std.specs.Prelude.{◌≡◌, IfOk, IfSome, None, Ok};
+ghost use Rattle.std.specs.Prelude.{◌≡◌, IfOk, IfSome, Ok};
 ghost use Rattle.std.specs.Option.{ForSome};
 ghost use Rattle.spec_image.specs.Told.{Stays, MayWrite};
 ghost use Rattle.blk_io.specs.Faults.{IfDamaged, IfDevice};
 ghost use Rattle.blk_model.specs.declared.Answer.TheVariants as answer;
 ghost use Rattle.blk_disk.specs.Open.{IsOpen};
 ghost use Rattle.blk_object.specs.FailedChecks.{IsFailedCheck};
-ghost use Rattle.blk_cache.specs.CommandClauses.{DoneBy, ForCall, IsRefused, KeepsAny, SparedBy, StopsBy};
+ghost use Rattle.blk_cache.specs.CommandClauses.{DoneBy, ForCall, IsRefused, KeepsAny, SparedBy, StopsBy, UndamagedWhere};
 ghost use Rattle.blk_cache.specs.Listing.{OnlyRoomChanges};
 ghost use Rattle.blk_cache.specs.SparseAsking.{early_sparse_refusal};
 ghost use Rattle.blk_cache.specs.SparseReading.{to_use_sparse, told_of_run};
@@ -58,7 +58,7 @@ impl Cache {
 
         // Corruption is a check that fails on what is read here; nothing is written after it. An observable folder gives none where the cache keeps a state.
         ensures damaged { IfDamaged result (IsFailedCheck self.new.files (F.told folder.new)) }
-        ensures untold { ForSome (F.told folder.old).files (KeepsAny self.old) → IfDamaged result (λ _. (F.told folder.old).files ≡ None) }
+        ensures untold { UndamagedWhere result (F.told folder.old) (KeepsAny self.old) }
         ensures writes { MayWrite F.told F.faults folder.old folder.new (IfDevice result) }
     {
         let asked = self.ask_sparse(folder, handle, offset, count)?;

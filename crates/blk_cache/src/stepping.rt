@@ -16,7 +16,7 @@ ghost use Rattle.spec_run.specs.Progress.{NotesCommand};
 ghost use Rattle.spec_run.specs.Run.{at_moment};
 ghost use Rattle.spec_run.specs.Script.{is_refused};
 ghost use Rattle.blk_cache.specs.CacheKeeping.{KeepsState, HoldsState};
-ghost use Rattle.blk_cache.specs.CommandClauses.{DoneBy, FlushesClean, ForCall, IsOnSparse, IsRefused, KeepsAny, OnlyNotesChange, SparedBy, StopsBy};
+ghost use Rattle.blk_cache.specs.CommandClauses.{DoneBy, FlushesClean, ForCall, IsOnSparse, IsRefused, KeepsAny, OnlyNotesChange, SparedBy, StopsBy, UndamagedWhere};
 ghost use Rattle.blk_evict.specs.RoomPrinting.{FailsWhereItRose};
 ghost use Rattle.blk_cache.specs.Stepping.{FailsBefore, FrontBy, IfDone, IfSink, IfStepDamaged, IfStepDevice, SaidBy};
 
@@ -122,7 +122,7 @@ impl Cache {
 
         ensures is_open { OnOk result (ForSome (F.told f.new).files (IsOpen self.new.files)) }
         ensures damaged { IfDamaged result (IsFailedCheck self.new.files (F.told f.new)) }
-        ensures untold { ForSome (F.told f.old).files (KeepsAny self.old) → IfDamaged result (λ _. (F.told f.old).files ≡ None) }
+        ensures untold { UndamagedWhere result (F.told f.old) (KeepsAny self.old) }
         ensures later { F.faults f.old ≤ F.faults f.new }
         ensures device { IfDevice result (Rises (F.faults f.old) (F.faults f.new)) }
     {
@@ -163,7 +163,7 @@ impl Cache {
         ensures mark { self.new.mark ≡ self.old.mark }
         ensures is_open { OnOk result (ForSome (F.told folder.new).files (IsOpen self.new.files)) }
         ensures damaged { IfDamaged result (IsFailedCheck self.new.files (F.told folder.new)) }
-        ensures untold { ForSome (F.told folder.old).files (KeepsAny self.old) → IfDamaged result (λ _. (F.told folder.old).files ≡ None) }
+        ensures untold { UndamagedWhere result (F.told folder.old) (KeepsAny self.old) }
         ensures later { F.faults folder.old ≤ F.faults folder.new }
         ensures printed_later { GoesOn K.is K.faults out.old out.new }
         ensures device { IfDevice result (Rises (F.faults folder.old) (F.faults folder.new)) }
@@ -231,7 +231,7 @@ impl Cache {
         ensures mark { self.new.mark ≡ self.old.mark }
         ensures is_open { OnOk result (ForSome (F.told folder.new).files (IsOpen self.new.files)) }
         ensures damaged { IfDamaged result (IsFailedCheck self.new.files (F.told folder.new)) }
-        ensures untold { ForSome (F.told folder.old).files (KeepsAny self.old) → IfDamaged result (λ _. (F.told folder.old).files ≡ None) }
+        ensures untold { UndamagedWhere result (F.told folder.old) (KeepsAny self.old) }
         ensures later { F.faults folder.old ≤ F.faults folder.new }
         ensures printed_later { GoesOn K.is K.faults out.old out.new }
         ensures device { IfDevice result (Rises (F.faults folder.old) (F.faults folder.new)) }

@@ -18,7 +18,7 @@ ghost use Rattle.law_state.specs.Commands.{IsDone, MayStop};
 ghost use Rattle.blk_object.specs.FailedChecks.{IsFailedCheck};
 ghost use Rattle.blk_cache.specs.declared.asking.Asked.TheVariants as asked;
 ghost use Rattle.blk_cache.specs.CacheKeeping.{HoldsState};
-ghost use Rattle.blk_cache.specs.CommandClauses.{DoneBy, IsRefused, KeepsAny, SparedBy, StopsBy};
+ghost use Rattle.blk_cache.specs.CommandClauses.{DoneBy, IsRefused, KeepsAny, SparedBy, StopsBy, UndamagedWhere};
 ghost use Rattle.blk_evict.specs.RoomPrinting.{FailsWhereItRose};
 ghost use Rattle.blk_cache.specs.Stepping.{FrontBy, SaidBy};
 ghost use Rattle.blk_cache.specs.Writing.{CanGetFor, CountsRise, ForEachToUse, ForWrite, IsAskedToWrite, IsNotRefusedEarly, IsReadyToWriteFor, IsReadyToWriteForSome, IsUsedAndCounted, KeepsToWriteFor, early_refusal, early_write_refusal, state_written, write_of};
@@ -86,7 +86,7 @@ impl Cache {
 
         // Corruption is a check that fails on what is read here; nothing is written after it. An observable folder gives none where the cache keeps a state.
         ensures damaged { IfDamaged result (IsFailedCheck self.new.files (F.told folder.new)) }
-        ensures untold { ForSome (F.told folder.old).files (KeepsAny self.old) → IfDamaged result (λ _. (F.told folder.old).files ≡ None) }
+        ensures untold { UndamagedWhere result (F.told folder.old) (KeepsAny self.old) }
         ensures writes { MayWrite F.told F.faults folder.old folder.new (IfDevice result) }
         ensures sink_later { GoesOn K.is K.faults out.old out.new }
     {
@@ -128,7 +128,7 @@ impl Cache {
         ensures mark { self.new.mark ≡ self.old.mark }
         ensures is_open { OnOk result (ForSome (F.told folder.new).files (IsOpen self.new.files)) }
         ensures damaged { IfDamaged result (IsFailedCheck self.new.files (F.told folder.new)) }
-        ensures untold { ForSome (F.told folder.old).files (IsReadyToWriteForSome self.old request.now size) → IfDamaged result (λ _. (F.told folder.old).files ≡ None) }
+        ensures untold { UndamagedWhere result (F.told folder.old) (IsReadyToWriteForSome self.old request.now size) }
         ensures writes { MayWrite F.told F.faults folder.old folder.new (IfDevice result) }
     {
         self.set_dirty(folder, request.handle, true)?;
@@ -157,7 +157,7 @@ impl Cache {
         ensures mark { self.new.mark ≡ self.old.mark }
         ensures is_open { OnOk result (ForSome (F.told folder.new).files (IsOpen self.new.files)) }
         ensures damaged { IfDamaged result (IsFailedCheck self.new.files (F.told folder.new)) }
-        ensures untold { ForSome (F.told folder.old).files (KeepsToWriteFor self.old request.now size) → IfDamaged result (λ _. (F.told folder.old).files ≡ None) }
+        ensures untold { UndamagedWhere result (F.told folder.old) (KeepsToWriteFor self.old request.now size) }
         ensures writes { MayWrite F.told F.faults folder.old folder.new (IfDevice result) }
     {
         let Some(object) = self.handles.object(request.handle) else {
@@ -204,7 +204,7 @@ impl Cache {
 
         // Corruption is a check that fails on what is read here. An observable folder gives none where the cache keeps a state.
         ensures damaged { IfDamaged result (IsFailedCheck self.now.files (F.told folder.new)) }
-        ensures untold { ForSome (F.told folder.old).files (KeepsAny self.now) → IfDamaged result (λ _. (F.told folder.old).files ≡ None) }
+        ensures untold { UndamagedWhere result (F.told folder.old) (KeepsAny self.now) }
     {
         if let Some(why) = self.refuses_length(handle, stream, offset, bytes.len() as u64) {
             return Ok(Asked::Refused(why));
@@ -256,7 +256,7 @@ fn use_and_count<F: Folder>(
 
     ensures is_open { ForSome (F.told folder.new).files (IsOpen files.now) }
     ensures damaged { IfDamaged result (IsFailedCheck files.now (F.told folder.new)) }
-    ensures untold { ForSome (F.told folder.old).files (λ image. object.now.doomed ≡ false → IsListed object.now.node image) → IfDamaged result (λ _. (F.told folder.old).files ≡ None) }
+    ensures untold { UndamagedWhere result (F.told folder.old) (λ image. object.now.doomed ≡ false → IsListed object.now.node image) }
     ensures silent { (F.told folder.old).files ≡ None → (F.told folder.new).files ≡ None }
     ensures later { F.faults folder.old ≤ F.faults folder.new }
     ensures device { IfDevice result (Rises (F.faults folder.old) (F.faults folder.new)) }
