@@ -48,26 +48,30 @@ OpaqueIfDamaged result told = IfDamaged result (λ _. told.files ≡ None)
 abbrev pub UndamagedWhere : {A : Type 0} → Result A Fault → Told → (Image → Type 0) → Type 0
 UndamagedWhere result told P = ForSome told.files P → OpaqueIfDamaged result told
 
--- What a call does for a command: each of these takes what the call left first, and then the cache and the folder as it found them, the moment and the request.
+-- What a call does for a command: each of these takes what the call left, and is a clause on what it found.
+
+-- a clause on a command: on the cache and the folder before the call, the moment and the request
+abbrev pub CommandClause : Type 1
+CommandClause = Cache → Told → (moment : ℕ) → Request → Type 0
 
 -- on an Ok the command is done, whatever state the cache kept: the answer is the model's, and the new cache keeps the state after it
-abbrev pub DoneBy : (new : Cache) → (now : Told) → Result Answer Fault → Cache → Told → (moment : ℕ) → Request → Type 0
+abbrev pub DoneBy : (new : Cache) → (now : Told) → Result Answer Fault → CommandClause
 DoneBy new now result cache told moment request = IfOk result (λ answer. Does (HoldsState cache) (HoldsState new) told now moment request answer)
 
 -- the command may crash at each word of the steps that were made, whatever state the cache kept
-abbrev pub StopsBy : (now : Told) → Cache → Told → (moment : ℕ) → Request → Type 0
+abbrev pub StopsBy : (now : Told) → CommandClause
 StopsBy now cache told moment request = MayStopAtEach (HoldsState cache) told now moment request
 
 -- on an Err no step was made where the model refuses the command
-abbrev pub SparedBy : (now : Told) → Result Answer Fault → Cache → Told → (moment : ℕ) → Request → Type 0
+abbrev pub SparedBy : (now : Told) → Result Answer Fault → CommandClause
 SparedBy now result cache told moment request = OnErr result (SparesRefused (HoldsState cache) told now moment request)
 
 -- where the cache keeps a state of an observable folder, the answer is no failed check
-abbrev pub UndamagedBy : Result Answer Fault → Cache → Told → (moment : ℕ) → Request → Type 0
+abbrev pub UndamagedBy : Result Answer Fault → CommandClause
 UndamagedBy result cache told moment request = UndamagedWhere result told (KeepsAny cache)
 
--- P, one of these, holds of a command
-abbrev pub ForCall : Cache → Told → (moment : ℕ) → Request → (Cache → Told → ℕ → Request → Type 0) → Type 0
+-- P holds of a command
+abbrev pub ForCall : Cache → Told → (moment : ℕ) → Request → CommandClause → Type 0
 ForCall cache told moment request P = P cache told moment request
 
 -- Changes.

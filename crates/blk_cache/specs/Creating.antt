@@ -6,7 +6,7 @@ use Rattle.spec_image.specs.Image.{Image}
 use Rattle.spec_image.specs.Told.{Told}
 use Rattle.blk_model.specs.Room.{total}
 use Rattle.blk_model.specs.Refusals.{no_room, refused}
-use Rattle.blk_model.specs.Request.{Request, to_create}
+use Rattle.blk_model.specs.Request.{to_create}
 use Rattle.blk_model.specs.State.{State, IsValidState}
 use Rattle.blk_model.specs.declared.Refusal.{Refusal}
 use Rattle.blk_model.specs.declared.Refusal.TheVariants as refusal
@@ -15,6 +15,7 @@ use Rattle.law_state.specs.CommandStates.{with_room}
 use Rattle.blk_object.specs.Making.{CanHaveNew}
 use Rattle.blk_cache.specs.declared.cache.Cache.{Cache}
 use Rattle.blk_cache.specs.CacheKeeping.{HoldsState}
+use Rattle.blk_cache.specs.CommandClauses.{CommandClause}
 
 -- Refusals.
 
@@ -32,11 +33,11 @@ abbrev pub IsNotRefused : Cache → Told → (moment handle : ℕ) → List ℕ 
 IsNotRefused cache told moment handle key = ForKept (HoldsState cache) told (λ state. refused moment (to_create handle key) state ≡ None)
 
 -- P holds of a Create that is refused only if there is no space
-abbrev pub WhereWantsRoom : Cache → Told → (moment handle : ℕ) → List ℕ → (Cache → Told → ℕ → Request → Type 0) → Type 0
+abbrev pub WhereWantsRoom : Cache → Told → (moment handle : ℕ) → List ℕ → CommandClause → Type 0
 WhereWantsRoom cache told moment handle key P = WantsRoomAlone cache told moment handle key → P cache told moment (to_create handle key)
 
 -- P holds of a Create that isn't refused
-abbrev pub WhereNotRefused : Cache → Told → (moment handle : ℕ) → List ℕ → (Cache → Told → ℕ → Request → Type 0) → Type 0
+abbrev pub WhereNotRefused : Cache → Told → (moment handle : ℕ) → List ℕ → CommandClause → Type 0
 WhereNotRefused cache told moment handle key P = IsNotRefused cache told moment handle key → P cache told moment (to_create handle key)
 
 -- The new object.

@@ -6,7 +6,7 @@ use Rattle.std.specs.declared.option.Option.{Option}
 use Rattle.std.specs.declared.option.Option.TheVariants.{None, Some}
 use Rattle.spec_image.specs.Told.{Told}
 use Rattle.blk_model.specs.Refusals.{covered, refused}
-use Rattle.blk_model.specs.Request.{Request, to_sparse_write}
+use Rattle.blk_model.specs.Request.{to_sparse_write}
 use Rattle.blk_model.specs.Sizes.{signatures}
 use Rattle.blk_model.specs.State.{State}
 use Rattle.blk_model.specs.declared.Refusal.{Refusal}
@@ -28,6 +28,7 @@ use Rattle.blk_cache.specs.declared.sparse_target.AskedTarget.{AskedTarget}
 use Rattle.blk_cache.specs.declared.sparse_target.AskedTarget.TheVariants as target
 use Rattle.blk_cache.specs.declared.sparse_writing.SparseRequest.{SparseRequest}
 use Rattle.blk_cache.specs.CacheKeeping.{HoldsState}
+use Rattle.blk_cache.specs.CommandClauses.{CommandClause}
 use Rattle.blk_cache.specs.Covering.{AreCovered}
 use Rattle.blk_cache.specs.SparseAsking.{IsRangeInside, IsLiveNamed, early_sparse_refusal, sparse_refusal}
 use Rattle.blk_cache.specs.SparseWriting.{IsRaisedBy, IsSignedBy, covered_of, index_charge, sparse_write_of}
@@ -122,17 +123,17 @@ HasRoomToStoreFor cache told request found rise = HasRoomToStore cache told requ
 -- The commands.
 
 -- P holds of a SparseWrite that names the object of the target
-abbrev pub WhereNamed : Cache → Told → SparseRequest → Target → (Cache → Told → ℕ → Request → Type 0) → Type 0
+abbrev pub WhereNamed : Cache → Told → SparseRequest → Target → CommandClause → Type 0
 WhereNamed cache told request found P = NamesTargetFor cache told request found → P cache told request.moment (sparse_write_of request)
 
 -- P holds of a SparseWrite that names an object that may get its bytes, where `rise` is what they add
-abbrev pub WhereAsks : Cache → Told → SparseRequest → Target → Rise → (Cache → Told → ℕ → Request → Type 0) → Type 0
+abbrev pub WhereAsks : Cache → Told → SparseRequest → Target → Rise → CommandClause → Type 0
 WhereAsks cache told request found rise P = AsksToStoreFor cache told request found rise → P cache told request.moment (sparse_write_of request)
 
 -- and isn't refused
-abbrev pub WhereRoom : Cache → Told → SparseRequest → Target → Rise → (Cache → Told → ℕ → Request → Type 0) → Type 0
+abbrev pub WhereRoom : Cache → Told → SparseRequest → Target → Rise → CommandClause → Type 0
 WhereRoom cache told request found rise P = HasRoomToStoreFor cache told request found rise → P cache told request.moment (sparse_write_of request)
 
 -- P holds of each SparseWrite of no bytes that names the object of the target
-abbrev pub ForEmptyWrites : Cache → Told → (moment : ℕ) → Target → (Cache → Told → ℕ → Request → Type 0) → Type 0
+abbrev pub ForEmptyWrites : Cache → Told → (moment : ℕ) → Target → CommandClause → Type 0
 ForEmptyWrites cache told moment found P = (handle offset : ℕ) → NamesTarget cache told moment handle offset 0 found → P cache told moment (to_sparse_write handle offset [])

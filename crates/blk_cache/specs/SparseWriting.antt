@@ -23,6 +23,7 @@ use Rattle.blk_cache.specs.declared.cache.Cache.{Cache}
 use Rattle.blk_cache.specs.declared.covered.Covered.{Covered}
 use Rattle.blk_cache.specs.declared.sparse_writing.SparseRequest.{SparseRequest}
 use Rattle.blk_cache.specs.CacheKeeping.{HoldsState}
+use Rattle.blk_cache.specs.CommandClauses.{CommandClause}
 use Rattle.blk_cache.specs.Covering.{AreCovered}
 use Rattle.blk_cache.specs.Creating.{sum_within}
 
@@ -33,7 +34,7 @@ abbrev pub sparse_write_of : SparseRequest → Request
 sparse_write_of request = to_sparse_write request.handle request.offset request.bytes.now
 
 -- P holds of a SparseWrite
-abbrev pub ForSparseWrite : Cache → Told → SparseRequest → (Cache → Told → ℕ → Request → Type 0) → Type 0
+abbrev pub ForSparseWrite : Cache → Told → SparseRequest → CommandClause → Type 0
 ForSparseWrite cache told request P = P cache told request.moment (sparse_write_of request)
 
 -- The object.

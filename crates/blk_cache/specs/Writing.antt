@@ -28,6 +28,7 @@ use Rattle.blk_cache.specs.declared.cache.Cache.{Cache}
 use Rattle.blk_cache.specs.declared.write.WriteRequest.{WriteRequest}
 use Rattle.blk_cache.specs.Asking.{IsNamedStream}
 use Rattle.blk_cache.specs.CacheKeeping.{HoldsState}
+use Rattle.blk_cache.specs.CommandClauses.{CommandClause}
 use Rattle.blk_cache.specs.Creating.{sum_within}
 
 -- The request.
@@ -37,7 +38,7 @@ abbrev pub write_of : WriteRequest → Request
 write_of request = to_write request.handle request.stream request.offset request.cut request.bytes.now
 
 -- P holds of a Write
-abbrev pub ForWrite : Cache → Told → WriteRequest → (Cache → Told → ℕ → Request → Type 0) → Type 0
+abbrev pub ForWrite : Cache → Told → WriteRequest → CommandClause → Type 0
 ForWrite cache told request P = P cache told request.moment (write_of request)
 
 -- Refusals.

@@ -1,18 +1,16 @@
 // The command Doom.
-ghost use Rattle.std.specs.Prelude.{◌≡◌, ℕ, IfOk, IfSome, IsTrue, Ok, OnOk, Some};
+ghost use Rattle.std.specs.Prelude.{◌≡◌, ℕ, IfOk, IfSome, IsTrue, Ok, OnOk};
 ghost use Rattle.std.specs.Option.{ForSome};
-ghost use Rattle.spec_image.specs.Told.{Passes, Stays, MayWrite};
+ghost use Rattle.spec_image.specs.Told.{Stays, MayWrite};
 ghost use Rattle.blk_io.specs.Faults.{IfDamaged, IfDevice};
-ghost use Rattle.blk_model.specs.Effects.{doomed};
 ghost use Rattle.blk_model.specs.Request.{to_doom};
 ghost use Rattle.blk_model.specs.declared.Answer.TheVariants as answer;
 ghost use Rattle.blk_disk.specs.Open.{IsOpen};
 ghost use Rattle.blk_disk.specs.Tables.{is_node_among, is_record_among};
 ghost use Rattle.blk_object.specs.FailedChecks.{IsFailedCheck};
-ghost use Rattle.blk_object.specs.RemovingObjects.{FindsEither};
-ghost use Rattle.blk_cache.specs.CacheKeeping.{HoldsState};
-ghost use Rattle.blk_cache.specs.CommandClauses.{DoneBy, ForCall, IsRefused, KeepsAny, OpaqueIfDamaged, SparedBy, StopsBy, UndamagedWhere};
-ghost use Rattle.blk_cache.specs.Dooming.{CountsDoomed, ForEachOpen, doom_refusal};
+ghost use Rattle.blk_cache.specs.CommandClauses.{DoneBy, ForCall, IsRefused, KeepsAny, SparedBy, StopsBy, UndamagedWhere};
+ghost use Rattle.blk_cache.specs.Dooming.{CacheDoomedBy, CacheDoomingBy, CacheUndamagedAt, CountsDoomed, ForEachOpen, doom_refusal};
+ghost use Rattle.blk_cache.specs.DoomingObjects.{ForTold};
 
 use crate::cache::Cache;
 use crate::dooming_objects::doom_named;
@@ -65,13 +63,13 @@ impl Cache {
         requires names { IsTrue (is_record_among self.old.files entry) }
         requires node { IsTrue (is_node_among self.old.files node) }
         requires is_open { ForSome (F.told folder.old).files (IsOpen self.old.files) }
-        ensures dooms { OnOk result (ForSome (F.told folder.old).files (λ from. ForEachOpen self.old node entry from (λ state number object. ForSome (F.told folder.new).files (HoldsState self.new (doomed number state (Some object)))))) }
-        ensures stops { ForSome (F.told folder.old).files (λ from. ForEachOpen self.old node entry from (λ state number object. Passes (F.told folder.old) (F.told folder.new) (FindsEither state (doomed number state (Some object))))) }
+        ensures dooms { OnOk result (ForTold (F.told folder.old) (ForEachOpen self.old node entry) (CacheDoomedBy self.new (F.told folder.new))) }
+        ensures stops { ForTold (F.told folder.old) (ForEachOpen self.old node entry) (CacheDoomingBy (F.told folder.old) (F.told folder.new)) }
         ensures is_open { ForSome (F.told folder.new).files (IsOpen self.new.files) }
         ensures notes { self.new.notes ≡ self.old.notes }
         ensures mark { self.new.mark ≡ self.old.mark }
         ensures damaged { IfDamaged result (IsFailedCheck self.new.files (F.told folder.new)) }
-        ensures untold { ForSome (F.told folder.old).files (λ from. ForEachOpen self.old node entry from (λ state number object. OpaqueIfDamaged result (F.told folder.old))) }
+        ensures untold { ForTold (F.told folder.old) (ForEachOpen self.old node entry) (CacheUndamagedAt result (F.told folder.old)) }
         ensures writes { MayWrite F.told F.faults folder.old folder.new (IfDevice result) }
     {
         let gone = doom_named(folder, &self.files, &mut self.name, entry, node)?;

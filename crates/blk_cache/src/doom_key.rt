@@ -1,9 +1,8 @@
 // The command DoomKey.
-ghost use Rattle.std.specs.Prelude.{◌≡◌, ◌≤◌, ℕ, IfOk, IfSome, IsTrue, Ok, OnOk, Some, length};
+ghost use Rattle.std.specs.Prelude.{◌≡◌, ◌≤◌, ℕ, IfOk, IfSome, IsTrue, Ok, OnOk, length};
 ghost use Rattle.std.specs.Option.{ForSome};
-ghost use Rattle.spec_image.specs.Told.{Passes, Stays, MayWrite};
+ghost use Rattle.spec_image.specs.Told.{Stays, MayWrite};
 ghost use Rattle.blk_io.specs.Faults.{IfDamaged, IfDevice};
-ghost use Rattle.blk_model.specs.Effects.{doomed};
 ghost use Rattle.blk_model.specs.Refusals.{no_key};
 ghost use Rattle.blk_model.specs.Request.{to_doom_key};
 ghost use Rattle.blk_model.specs.Sizes.{longest_key};
@@ -13,10 +12,9 @@ ghost use Rattle.spec_format.specs.Address.{blocks_256, kind_of};
 ghost use Rattle.blk_disk.specs.Open.{IsOpen};
 ghost use Rattle.blk_disk.specs.Tables.{is_node_among, stands_among};
 ghost use Rattle.blk_object.specs.FailedChecks.{IsFailedCheck};
-ghost use Rattle.blk_object.specs.RemovingObjects.{FindsEither};
-ghost use Rattle.blk_cache.specs.CacheKeeping.{HoldsState};
-ghost use Rattle.blk_cache.specs.CommandClauses.{DoneBy, ForCall, IsRefused, KeepsAny, OpaqueIfDamaged, SparedBy, StopsBy, UndamagedWhere};
-ghost use Rattle.blk_cache.specs.Dooming.{ForEachKept};
+ghost use Rattle.blk_cache.specs.CommandClauses.{DoneBy, ForCall, IsRefused, KeepsAny, SparedBy, StopsBy, UndamagedWhere};
+ghost use Rattle.blk_cache.specs.Dooming.{CacheDoomedBy, CacheDoomingBy, CacheUndamagedAt, ForEachKept};
+ghost use Rattle.blk_cache.specs.DoomingObjects.{ForTold};
 
 use crate::cache::Cache;
 use crate::dooming_objects::{Target, doom_target, find_target};
@@ -80,13 +78,13 @@ impl Cache {
         requires kind_before { IfSome target.now.found.before (λ before. kind_of before ≡ blocks_256) }
         requires stands_before { IfSome target.now.found.before (λ before. IsTrue (stands_among self.old.files before)) }
         requires is_open { ForSome (F.told folder.old).files (IsOpen self.old.files) }
-        ensures dooms { OnOk result (ForSome (F.told folder.old).files (λ from. ForEachKept self.old key.now target.now from (λ state number object. ForSome (F.told folder.new).files (HoldsState self.new (doomed number state (Some object)))))) }
-        ensures stops { ForSome (F.told folder.old).files (λ from. ForEachKept self.old key.now target.now from (λ state number object. Passes (F.told folder.old) (F.told folder.new) (FindsEither state (doomed number state (Some object))))) }
+        ensures dooms { OnOk result (ForTold (F.told folder.old) (ForEachKept self.old key.now target.now) (CacheDoomedBy self.new (F.told folder.new))) }
+        ensures stops { ForTold (F.told folder.old) (ForEachKept self.old key.now target.now) (CacheDoomingBy (F.told folder.old) (F.told folder.new)) }
         ensures is_open { ForSome (F.told folder.new).files (IsOpen self.new.files) }
         ensures notes { self.new.notes ≡ self.old.notes }
         ensures mark { self.new.mark ≡ self.old.mark }
         ensures damaged { IfDamaged result (IsFailedCheck self.new.files (F.told folder.new)) }
-        ensures untold { ForSome (F.told folder.old).files (λ from. ForEachKept self.old key.now target.now from (λ state number object. OpaqueIfDamaged result (F.told folder.old))) }
+        ensures untold { ForTold (F.told folder.old) (ForEachKept self.old key.now target.now) (CacheUndamagedAt result (F.told folder.old)) }
         ensures writes { MayWrite F.told F.faults folder.old folder.new (IfDevice result) }
     {
         let entry = target.found.entry;

@@ -1,20 +1,18 @@
 // Eviction units are removed until a goal is met.
-ghost use Rattle.std.specs.Prelude.{◌≡◌, ◌+◌, [], ◌∷◌, IfOk, IsTrue, None, OnOk, true};
+ghost use Rattle.std.specs.Prelude.{◌≡◌, ◌+◌, [], ◌∷◌, IfOk, IsTrue, OnOk, true};
 ghost use Rattle.std.specs.Option.{ForSome};
 ghost use Rattle.spec_image.specs.Told.{Passes, MayWrite};
 ghost use Rattle.blk_io.specs.Faults.{IfDamaged, IfDevice};
-ghost use Rattle.blk_io.specs.Streams.{Appends, GoesOn};
-ghost use Rattle.blk_model.specs.Room.{evicted_until, without};
-ghost use Rattle.blk_script.specs.Reply.{evicted_text};
+ghost use Rattle.blk_io.specs.Streams.{GoesOn};
+ghost use Rattle.blk_model.specs.Room.{without};
 ghost use Rattle.blk_disk.specs.Open.{IsOpen};
 ghost use Rattle.blk_disk.specs.Tables.{is_node_among, is_record_among};
 ghost use Rattle.blk_object.specs.FailedChecks.{IsFailedCheck};
 ghost use Rattle.blk_object.specs.RemovingObjects.{FindsEither};
-ghost use Rattle.blk_cache.specs.CacheKeeping.{HoldsState};
-ghost use Rattle.blk_cache.specs.Covering.{ForCovered, KeepsCovered};
-ghost use Rattle.blk_cache.specs.Evicting.{ForEachThatMayGo, IsEvicting, KeepsInPlaces, KeepsThatMayGo, OnlyItemsChange, count_of_groups, is_met};
+ghost use Rattle.blk_cache.specs.Covering.{KeepsCovered};
+ghost use Rattle.blk_cache.specs.Evicting.{BegunBy, EvictedBy, EvictingBy, ForEachThatMayGo, ForGoal, ForUnit, KeepsInPlaces, KeepsThatMayGo, OnlyItemsChange, PrintedBy, count_of_groups};
 ghost use Rattle.blk_cache.specs.CommandClauses.{UndamagedWhere};
-ghost use Rattle.blk_evict.specs.RoomPrinting.{FailsWhereItRose, PrintsUnlessFailed};
+ghost use Rattle.blk_evict.specs.RoomPrinting.{FailsWhereItRose};
 
 use crate::cache::Cache;
 use crate::covered::Covered;
@@ -39,13 +37,13 @@ impl Cache {
         requires is_open { ForSome (F.told folder.old).files (IsOpen self.old.files) }
 
         // Each state that was kept is kept without the eviction units that go, and their items are counted and printed.
-        ensures evicted { OnOk result (ForCovered self.old parts.now (F.told folder.old) (λ state covered. ForSome (F.told folder.new).files (HoldsState self.new (without (evicted_until (is_met goal.now) state covered) state)))) }
-        ensures counts { IfOk result (λ count. ForCovered self.old parts.now (F.told folder.old) (λ state covered. count ≡ count_of_groups (evicted_until (is_met goal.now) state covered))) }
-        ensures prints { OnOk result (ForCovered self.old parts.now (F.told folder.old) (λ state covered. PrintsUnlessFailed failed.old failed.new (K.written out.old) (K.written out.new) (evicted_text (evicted_until (is_met goal.now) state covered)))) }
+        ensures evicted { OnOk result (ForGoal self.old parts.now (F.told folder.old) goal.now (EvictedBy self.new (F.told folder.new))) }
+        ensures counts { IfOk result (λ count. ForGoal self.old parts.now (F.told folder.old) goal.now (λ state groups. count ≡ count_of_groups groups)) }
+        ensures prints { OnOk result (ForGoal self.old parts.now (F.told folder.old) goal.now (PrintedBy failed.old failed.new K.written out.old out.new)) }
 
         // At each word a prefix of the eviction units that go is out; on any answer a prefix of their text was printed.
-        ensures stops { ForCovered self.old parts.now (F.told folder.old) (λ state covered. Passes (F.told folder.old) (F.told folder.new) (IsEvicting (evicted_until (is_met goal.now) state covered) state)) }
-        ensures front { ForCovered self.old parts.now (F.told folder.old) (λ state covered. Appends (K.written out.old) (K.written out.new) (evicted_text (evicted_until (is_met goal.now) state covered))) }
+        ensures stops { ForGoal self.old parts.now (F.told folder.old) goal.now (EvictingBy (F.told folder.old) (F.told folder.new)) }
+        ensures front { ForGoal self.old parts.now (F.told folder.old) goal.now (BegunBy K.written out.old out.new) }
 
         // Where the output failed before nothing is printed.
         ensures quiet { failed.old ≡ true → (failed.new ≡ true) × (K.written out.new ≡ K.written out.old) }
@@ -76,11 +74,11 @@ impl Cache {
         parts: &Covered,
     ) -> Result<(), Fault>
         requires is_open { ForSome (F.told folder.old).files (IsOpen self.old.files) }
-        ensures evicted { OnOk result (ForCovered self.old parts.now (F.told folder.old) (λ state covered. ForSome (F.told folder.new).files (HoldsState self.new (without (evicted_until (is_met goal.now) state covered) state)))) }
-        ensures counts { OnOk result (ForCovered self.old parts.now (F.told folder.old) (λ state covered. self.old.items ≡ self.new.items + count_of_groups (evicted_until (is_met goal.now) state covered))) }
-        ensures prints { OnOk result (ForCovered self.old parts.now (F.told folder.old) (λ state covered. PrintsUnlessFailed failed.old failed.new (K.written out.old) (K.written out.new) (evicted_text (evicted_until (is_met goal.now) state covered)))) }
-        ensures stops { ForCovered self.old parts.now (F.told folder.old) (λ state covered. Passes (F.told folder.old) (F.told folder.new) (IsEvicting (evicted_until (is_met goal.now) state covered) state)) }
-        ensures front { ForCovered self.old parts.now (F.told folder.old) (λ state covered. Appends (K.written out.old) (K.written out.new) (evicted_text (evicted_until (is_met goal.now) state covered))) }
+        ensures evicted { OnOk result (ForGoal self.old parts.now (F.told folder.old) goal.now (EvictedBy self.new (F.told folder.new))) }
+        ensures counts { OnOk result (ForGoal self.old parts.now (F.told folder.old) goal.now (λ state groups. self.old.items ≡ self.new.items + count_of_groups groups)) }
+        ensures prints { OnOk result (ForGoal self.old parts.now (F.told folder.old) goal.now (PrintedBy failed.old failed.new K.written out.old out.new)) }
+        ensures stops { ForGoal self.old parts.now (F.told folder.old) goal.now (EvictingBy (F.told folder.old) (F.told folder.new)) }
+        ensures front { ForGoal self.old parts.now (F.told folder.old) goal.now (BegunBy K.written out.old out.new) }
         ensures quiet { failed.old ≡ true → (failed.new ≡ true) × (K.written out.new ≡ K.written out.old) }
         ensures fails { FailsWhereItRose failed.old failed.new (K.faults out.old) (K.faults out.new) }
         ensures others { OnlyItemsChange self.old self.new }
@@ -119,9 +117,9 @@ impl Cache {
 
         // Where it may be evicted in a state that was kept, that is kept without its eviction unit.
         ensures evicted { OnOk result (ForSome (F.told folder.old).files (λ from. ForEachThatMayGo self.old found.now from (λ state layout group. ForSome (F.told folder.new).files (KeepsInPlaces self.new (without (group ∷ []) state) layout)))) }
-        ensures prints { OnOk result (ForSome (F.told folder.old).files (λ from. ForEachThatMayGo self.old found.now from (λ state layout group. PrintsUnlessFailed failed.old failed.new (K.written out.old) (K.written out.new) (evicted_text (group ∷ []))))) }
+        ensures prints { OnOk result (ForUnit self.old found.now (F.told folder.old) (PrintedBy failed.old failed.new K.written out.old out.new)) }
         ensures stops { ForSome (F.told folder.old).files (λ from. ForEachThatMayGo self.old found.now from (λ state layout group. Passes (F.told folder.old) (F.told folder.new) (FindsEither state (without (group ∷ []) state)))) }
-        ensures front { ForSome (F.told folder.old).files (λ from. ForEachThatMayGo self.old found.now from (λ state layout group. Appends (K.written out.old) (K.written out.new) (evicted_text (group ∷ [])))) }
+        ensures front { ForUnit self.old found.now (F.told folder.old) (BegunBy K.written out.old out.new) }
         ensures quiet { failed.old ≡ true → (failed.new ≡ true) × (K.written out.new ≡ K.written out.old) }
         ensures fails { FailsWhereItRose failed.old failed.new (K.faults out.old) (K.faults out.new) }
         ensures others { OnlyItemsChange self.old self.new }

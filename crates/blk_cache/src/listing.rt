@@ -13,7 +13,8 @@ ghost use Rattle.blk_object.specs.FailedChecks.{IsFailedCheck};
 ghost use Rattle.blk_cache.specs.CacheKeeping.{HoldsState};
 ghost use Rattle.blk_cache.specs.CommandClauses.{DoneBy, ForCall, IsRefused, KeepsAny, UndamagedWhere};
 ghost use Rattle.blk_cache.specs.Listing.{OnlyRoomChanges};
-ghost use Rattle.blk_evict.specs.RoomPrinting.{FailsWhereItRose, PrintsUnlessFailed, PrintsInPart};
+ghost use Rattle.blk_cache.specs.Stepping.{Puts, PutsPart};
+ghost use Rattle.blk_evict.specs.RoomPrinting.{FailsWhereItRose};
 
 use crate::cache::Cache;
 use blk_index::word;
@@ -49,8 +50,8 @@ impl Cache {
         out: &mut K,
         failed: &mut bool,
     ) -> Result<(), Fault>
-        ensures printed { OnOk result (ForKept (HoldsState self.old) (F.told folder.old) (λ state. PrintsUnlessFailed failed.old failed.new (K.written out.old) (K.written out.new) (flat_map row_line (rows state)))) }
-        ensures part { ForKept (HoldsState self.old) (F.told folder.old) (λ state. PrintsInPart failed.old (K.written out.old) (K.written out.new) (flat_map row_line (rows state))) }
+        ensures printed { OnOk result (ForKept (HoldsState self.old) (F.told folder.old) (λ state. Puts failed.old failed.new K.written out.old out.new (flat_map row_line (rows state)))) }
+        ensures part { ForKept (HoldsState self.old) (F.told folder.old) (λ state. PutsPart failed.old K.written out.old out.new (flat_map row_line (rows state))) }
         ensures failed { FailsWhereItRose failed.old failed.new (K.faults out.old) (K.faults out.new) }
         ensures others { OnlyRoomChanges self.old self.new }
         ensures reads { ReadsOnly F.told F.faults folder.old folder.new (IfDevice result) }

@@ -6,7 +6,8 @@ ghost use Rattle.blk_io.specs.Streams.{GoesOn};
 ghost use Rattle.blk_object.specs.FailedChecks.{IsFailedCheck};
 ghost use Rattle.blk_cache.specs.ReadPrinting.{ForRange, KeepsRange, can_be_read};
 ghost use Rattle.blk_cache.specs.CommandClauses.{UndamagedWhere};
-ghost use Rattle.blk_evict.specs.RoomPrinting.{FailsWhereItRose, PrintsUnlessFailed, PrintsInPart};
+ghost use Rattle.blk_cache.specs.Stepping.{Puts, PutsPart};
+ghost use Rattle.blk_evict.specs.RoomPrinting.{FailsWhereItRose};
 
 use crate::asking::STREAMS;
 use crate::cache::Cache;
@@ -35,8 +36,8 @@ impl Cache {
         failed: &mut bool,
         range: ReadRange,
     ) -> Result<(), Fault>
-        ensures printed { OnOk result (ForRange self.now (F.told folder.old) range (PrintsUnlessFailed failed.old failed.new (K.written out.old) (K.written out.new))) }
-        ensures part { ForRange self.now (F.told folder.old) range (PrintsInPart failed.old (K.written out.old) (K.written out.new)) }
+        ensures printed { OnOk result (ForRange self.now (F.told folder.old) range (Puts failed.old failed.new K.written out.old out.new)) }
+        ensures part { ForRange self.now (F.told folder.old) range (PutsPart failed.old K.written out.old out.new) }
         ensures failed { FailsWhereItRose failed.old failed.new (K.faults out.old) (K.faults out.new) }
         ensures reads { ReadsOnly F.told F.faults folder.old folder.new (IfDevice result) }
 

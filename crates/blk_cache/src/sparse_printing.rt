@@ -9,7 +9,8 @@ ghost use Rattle.blk_object.specs.FailedChecks.{IsFailedCheck};
 ghost use Rattle.blk_cache.specs.Listing.{OnlyRoomChanges};
 ghost use Rattle.blk_cache.specs.ReadPrinting.{ForPresent, KeepsPresent};
 ghost use Rattle.blk_cache.specs.CommandClauses.{UndamagedWhere};
-ghost use Rattle.blk_evict.specs.RoomPrinting.{FailsWhereItRose, PrintsUnlessFailed, PrintsInPart};
+ghost use Rattle.blk_cache.specs.Stepping.{Puts, PutsPart};
+ghost use Rattle.blk_evict.specs.RoomPrinting.{FailsWhereItRose};
 
 use crate::cache::Cache;
 use crate::sparse_asking::LARGEST_OFFSET;
@@ -33,8 +34,8 @@ impl Cache {
         number: u64,
     ) -> Result<(), Fault>
         requires is_open { ForSome (F.told folder.old).files (IsOpen self.old.files) }
-        ensures printed { OnOk result (ForPresent self.old (F.told folder.old) handle offset number (PrintsUnlessFailed failed.old failed.new (K.written out.old) (K.written out.new))) }
-        ensures part { ForPresent self.old (F.told folder.old) handle offset number (PrintsInPart failed.old (K.written out.old) (K.written out.new)) }
+        ensures printed { OnOk result (ForPresent self.old (F.told folder.old) handle offset number (Puts failed.old failed.new K.written out.old out.new)) }
+        ensures part { ForPresent self.old (F.told folder.old) handle offset number (PutsPart failed.old K.written out.old out.new) }
         ensures failed { FailsWhereItRose failed.old failed.new (K.faults out.old) (K.faults out.new) }
         ensures others { OnlyRoomChanges self.old self.new }
         ensures reads { ReadsOnly F.told F.faults folder.old folder.new (IfDevice result) }
