@@ -1,9 +1,13 @@
 -- Clauses of commands of a cache, beside the model's answer and the next state.
-use Rattle.std.specs.Prelude.{◌≡◌, ◌⊎◌, ℕ, ◌+◌, ◌-◌, ◌^◌, Bool, List, [], ◌∷◌, if◌then◌else◌, is_some, min, true}
+use Rattle.std.specs.Prelude.{◌≡◌, ◌⊎◌, ℕ, ◌+◌, ◌-◌, ◌^◌, Bool, List, [], ◌∷◌, IfOk, OnErr, Result, if◌then◌else◌, is_some, min, true}
+use Rattle.std.specs.Option.{ForSome}
 use Rattle.std.specs.declared.option.Option.{Option}
+use Rattle.std.specs.declared.option.Option.TheVariants.{None}
 use Rattle.spec_image.specs.Image.{Image}
 use Rattle.spec_image.specs.Told.{Stays, Told}
 use Rattle.blk_io.specs.declared.fault.Damage.{Damage}
+use Rattle.blk_io.specs.declared.fault.Fault.{Fault}
+use Rattle.blk_io.specs.Faults.{IfDamaged}
 use Rattle.blk_model.specs.Request.{Request, to_flush, to_sparse_range, to_sparse_read, to_sparse_write}
 use Rattle.blk_model.specs.State.{Object, State}
 use Rattle.blk_model.specs.declared.Answer.{Answer}
@@ -13,7 +17,7 @@ use Rattle.blk_model.specs.Refusals.{first_refusal, no_key, no_name}
 use Rattle.blk_model.specs.Step.{step}
 use Rattle.blk_disk.specs.declared.tables.BlockFiles.{BlockFiles}
 use Rattle.blk_disk.specs.Tables.{is_node_among}
-use Rattle.law_state.specs.Commands.{ForKept}
+use Rattle.law_state.specs.Commands.{Does, ForKept, MayStopAtEach}
 use Rattle.law_state.specs.OneCallLaws.{Names}
 use Rattle.spec_run.specs.Script.{is_refusal, is_refused, refusal_of}
 use Rattle.blk_lru.specs.Damages.{IsTouchDamage}
@@ -33,6 +37,44 @@ SparesRefused keeps old new moment request = ForKept keeps old (λ state. is_ref
 -- the cache keeps some state on the image
 abbrev pub KeepsAny : Cache → Image → Type 0
 KeepsAny cache image = (state : State) × HoldsState cache state image
+
+-- Failed checks.
+
+-- where the answer is a failed check, the folder is opaque
+abbrev pub OpaqueIfDamaged : {A : Type 0} → Result A Fault → Told → Type 0
+OpaqueIfDamaged result told = IfDamaged result (λ _. told.files ≡ None)
+
+-- where P holds of an observable folder, the answer is no failed check
+abbrev pub UndamagedWhere : {A : Type 0} → Result A Fault → Told → (Image → Type 0) → Type 0
+UndamagedWhere result told P = ForSome told.files P → OpaqueIfDamaged result told
+
+-- What a call does for a command: each of these takes what the call left, and is a clause on what it found.
+
+-- a clause on a command: on the cache and the folder before the call, the moment and the request
+abbrev pub CommandClause : Type 1
+CommandClause = Cache → Told → (moment : ℕ) → Request → Type 0
+
+-- on an Ok the command is done, whatever state the cache kept: the answer is the model's, and the new cache keeps the state after it
+abbrev pub DoneBy : (new : Cache) → (now : Told) → Result Answer Fault → CommandClause
+DoneBy new now result cache told moment request = IfOk result (λ answer. Does (HoldsState cache) (HoldsState new) told now moment request answer)
+
+-- the command may crash at each word of the steps that were made, whatever state the cache kept
+abbrev pub StopsBy : (now : Told) → CommandClause
+StopsBy now cache told moment request = MayStopAtEach (HoldsState cache) told now moment request
+
+-- on an Err no step was made where the model refuses the command
+abbrev pub SparedBy : (now : Told) → Result Answer Fault → CommandClause
+SparedBy now result cache told moment request = OnErr result (SparesRefused (HoldsState cache) told now moment request)
+
+-- where the cache keeps a state of an observable folder, the answer is no failed check
+abbrev pub UndamagedBy : Result Answer Fault → CommandClause
+UndamagedBy result cache told moment request = UndamagedWhere result told (KeepsAny cache)
+
+-- P holds of a command
+abbrev pub ForCall : Cache → Told → (moment : ℕ) → Request → CommandClause → Type 0
+ForCall cache told moment request P = P cache told moment request
+
+-- Changes.
 
 -- nothing of the cache but its handles and the cost of its open objects has changed
 pub record OnlyNamesChange (old new : Cache) : Type 0 where

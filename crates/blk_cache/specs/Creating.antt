@@ -15,6 +15,7 @@ use Rattle.law_state.specs.CommandStates.{with_room}
 use Rattle.blk_object.specs.Making.{CanHaveNew}
 use Rattle.blk_cache.specs.declared.cache.Cache.{Cache}
 use Rattle.blk_cache.specs.CacheKeeping.{HoldsState}
+use Rattle.blk_cache.specs.CommandClauses.{CommandClause}
 
 -- Refusals.
 
@@ -30,6 +31,14 @@ WantsRoomAlone cache told moment handle key = ForKept (HoldsState cache) told (�
 -- in no state that the cache keeps is the Create refused
 abbrev pub IsNotRefused : Cache → Told → (moment handle : ℕ) → List ℕ → Type 0
 IsNotRefused cache told moment handle key = ForKept (HoldsState cache) told (λ state. refused moment (to_create handle key) state ≡ None)
+
+-- P holds of a Create that is refused only if there is no space
+abbrev pub WhereWantsRoom : Cache → Told → (moment handle : ℕ) → List ℕ → CommandClause → Type 0
+WhereWantsRoom cache told moment handle key P = WantsRoomAlone cache told moment handle key → P cache told moment (to_create handle key)
+
+-- P holds of a Create that isn't refused
+abbrev pub WhereNotRefused : Cache → Told → (moment handle : ℕ) → List ℕ → CommandClause → Type 0
+WhereNotRefused cache told moment handle key P = IsNotRefused cache told moment handle key → P cache told moment (to_create handle key)
 
 -- The new object.
 

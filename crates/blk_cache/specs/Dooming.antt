@@ -1,8 +1,11 @@
 -- Dooming of objects by a cache: refusals, which object is meant, and how the cache counts it.
-use Rattle.std.specs.Prelude.{◌≡◌, ℕ, ◌-◌, List, [], ◌∷◌, false, is_none}
-use Rattle.std.specs.Option.{option_map_or}
+use Rattle.std.specs.Prelude.{◌≡◌, ℕ, ◌-◌, List, [], ◌∷◌, Result, false, is_none}
+use Rattle.std.specs.Option.{ForSome, option_map_or}
 use Rattle.std.specs.declared.option.Option.{Option}
+use Rattle.std.specs.declared.option.Option.TheVariants.{Some}
 use Rattle.spec_image.specs.Image.{Image}
+use Rattle.spec_image.specs.Told.{Passes, Told}
+use Rattle.blk_io.specs.declared.fault.Fault.{Fault}
 use Rattle.blk_model.specs.Effects.{doomed}
 use Rattle.blk_model.specs.Refusals.{first_refusal}
 use Rattle.blk_model.specs.Room.{items}
@@ -10,11 +13,13 @@ use Rattle.blk_model.specs.State.{Object, State, is_named}
 use Rattle.blk_model.specs.declared.Refusal.{Refusal}
 use Rattle.blk_model.specs.declared.Refusal.TheVariants as refusal
 use Rattle.blk_handles.specs.Bindings.{Bindings, binding_of, with_change, with_doom}
+use Rattle.blk_object.specs.RemovingObjects.{FindsEither}
 use Rattle.blk_sparse.specs.declared.dropping.Gone.{Gone}
 use Rattle.blk_cache.specs.declared.dooming_objects.Target.{Target}
 use Rattle.blk_cache.specs.DoomingObjects.{LiesAsTarget, LiesOpen}
 use Rattle.blk_cache.specs.declared.cache.Cache.{Cache}
 use Rattle.blk_cache.specs.CacheKeeping.{HoldsState}
+use Rattle.blk_cache.specs.CommandClauses.{OpaqueIfDamaged}
 
 -- Refusals.
 
@@ -32,6 +37,20 @@ ForEachOpen cache node entry image P = (state : State) (kept : HoldsState cache 
 abbrev pub ForEachKept : Cache → List ℕ → Target → Image → (State → ℕ → Object → Type 0) → Type 0
 ForEachKept cache key target image P =
     (state : State) (kept : HoldsState cache state image) (number : ℕ) (object : Object) → LiesAsTarget (is_named state number) state kept.layout number object target → object.key ≡ key → P state number object
+
+-- What a call does that dooms an object of a cache: each of these takes what the call left first, and then the image that it found, and the object.
+
+-- the new cache keeps the state in which the object is doomed
+abbrev pub CacheDoomedBy : (new : Cache) → (now : Told) → (from : Image) → State → ℕ → Object → Type 0
+CacheDoomedBy new now from = λ state number object. ForSome now.files (HoldsState new (doomed number state (Some object)))
+
+-- at each word of the steps that were made the object is found as it was, or doomed
+abbrev pub CacheDoomingBy : (told now : Told) → (from : Image) → State → ℕ → Object → Type 0
+CacheDoomingBy told now from = λ state number object. Passes told now (FindsEither state (doomed number state (Some object)))
+
+-- where the answer is a failed check, the folder is opaque
+abbrev pub CacheUndamagedAt : {A : Type 0} → Result A Fault → Told → (from : Image) → State → ℕ → Object → Type 0
+CacheUndamagedAt result told from = λ state number object. OpaqueIfDamaged result told
 
 -- Counters.
 

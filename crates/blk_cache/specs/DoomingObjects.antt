@@ -1,8 +1,11 @@
 -- Dooming of objects in a folder: where they lie before, and what state is kept afterwards.
-use Rattle.std.specs.Prelude.{◌≡◌, ℕ, ◌+◌, List, [], Bool, false, true}
+use Rattle.std.specs.Prelude.{◌≡◌, ℕ, ◌+◌, List, [], Bool, Result, false, true}
+use Rattle.std.specs.Option.{ForSome}
 use Rattle.std.specs.declared.option.Option.{Option}
 use Rattle.std.specs.declared.option.Option.TheVariants.{None, Some}
 use Rattle.spec_image.specs.Image.{Image}
+use Rattle.spec_image.specs.Told.{Passes, Told}
+use Rattle.blk_io.specs.declared.fault.Fault.{Fault}
 use Rattle.blk_model.specs.Effects.{doomed}
 use Rattle.blk_model.specs.Items.{main}
 use Rattle.blk_model.specs.Room.{items, total}
@@ -14,9 +17,11 @@ use Rattle.spec_folder.specs.Loads.{Loaded}
 use Rattle.law_state.specs.Changes.{SameSession}
 use Rattle.law_state.specs.Keeping.{Keeps}
 use Rattle.blk_object.specs.RemovingFound.{LiesAsFound}
+use Rattle.blk_object.specs.RemovingObjects.{FindsEither}
 use Rattle.blk_object.specs.Writing.{node_of_object}
 use Rattle.blk_sparse.specs.declared.dropping.Gone.{Gone}
 use Rattle.blk_cache.specs.declared.dooming_objects.Target.{Target}
+use Rattle.blk_cache.specs.CommandClauses.{OpaqueIfDamaged}
 use Rattle.blk_evict.specs.declared.item_names.EntryKind.{EntryKind}
 use Rattle.blk_evict.specs.declared.item_names.EntryKind.TheVariants.{Parent, Part, Plain}
 use Rattle.blk_evict.specs.EvictingGroups.{kind_of_role}
@@ -89,3 +94,21 @@ pub record IsDoomed (state : State) (layout : Layout) (number : ℕ) (object : O
   pub items_less : items state ≡ items (doomed number state (Some object)) + gone.items
   pub bytes_less : total state ≡ total (doomed number state (Some object)) + gone.bytes
   pub session : SameSession from image
+
+-- What a call does that dooms: each of these takes what the call left first, and then the image that it found, and the object as ForTold gives it.
+
+-- the object was doomed, and `gone` has the items and costs that left
+abbrev pub DoomedBy : Gone → (now : Told) → (from : Image) → State → Layout → ℕ → Object → Type 0
+DoomedBy gone now from = λ state layout number object. ForSome now.files (IsDoomed state layout number object gone from)
+
+-- at each word of the steps that were made the object is found as it was, or doomed
+abbrev pub DoomingBy : (told now : Told) → (from : Image) → State → Layout → ℕ → Object → Type 0
+DoomingBy told now from = λ state layout number object. Passes told now (FindsEither state (doomed number state (Some object)))
+
+-- where the answer is a failed check, the folder is opaque
+abbrev pub UndamagedAt : {A : Type 0} → Result A Fault → Told → (from : Image) → State → Layout → ℕ → Object → Type 0
+UndamagedAt result told from = λ state layout number object. OpaqueIfDamaged result told
+
+-- P, one of these, holds of each object that `each` names in an observable folder
+abbrev pub ForTold : {A : Type 1} → Told → (each : Image → A → Type 0) → (P : Image → A) → Type 0
+ForTold told each P = ForSome told.files (λ from. each from (P from))

@@ -1,18 +1,26 @@
 -- Eviction units go one after another, until a goal is met.
-use Rattle.std.specs.Prelude.{◌≡◌, ℕ, Bool, List, ◌++◌, length, nat_le, sum_by}
+use Rattle.std.specs.Prelude.{◌≡◌, ℕ, Bool, List, [], ◌∷◌, ◌++◌, length, nat_le, sum_by}
+use Rattle.std.specs.Option.{ForSome}
+use Rattle.std.specs.declared.option.Option.{Option}
 use Rattle.spec_image.specs.Image.{Image}
+use Rattle.spec_image.specs.Told.{Passes, Told}
+use Rattle.blk_io.specs.Streams.{Appends}
 use Rattle.blk_model.specs.Holding.{rest}
-use Rattle.blk_model.specs.Room.{Group, fits, items_of_group, low, total, without}
+use Rattle.blk_model.specs.Room.{Group, evicted_until, fits, items_of_group, low, total, without}
 use Rattle.blk_model.specs.State.{State}
 use Rattle.spec_folder.specs.Layout.{Layout}
 use Rattle.law_state.specs.Changes.{Finds}
+use Rattle.blk_script.specs.Reply.{evicted_text}
 use Rattle.blk_cache.specs.declared.cache.Cache.{Cache}
+use Rattle.blk_cache.specs.declared.covered.Covered.{Covered}
 use Rattle.blk_cache.specs.declared.goal.Goal.{Goal}
 use Rattle.blk_cache.specs.declared.goal.Goal.TheVariants.{Bytes, Room}
 use Rattle.blk_evict.specs.declared.list_places.Unpinned.{Unpinned}
 use Rattle.blk_cache.specs.CacheKeeping.{HoldsState}
+use Rattle.blk_cache.specs.Covering.{ForCovered}
 use Rattle.blk_evict.specs.RoomLaws.{group_for}
 use Rattle.blk_evict.specs.ListPlaces.{MayGoAt}
+use Rattle.blk_evict.specs.RoomPrinting.{PrintsUnlessFailed}
 
 -- the goal of an eviction is met: what is to be added fits below the low watermark, or no more than so many bytes are left
 abbrev pub is_met : Goal → State → Bool
@@ -53,3 +61,29 @@ pub record KeepsThatMayGo (cache : Cache) (found : Unpinned) (image : Image) : T
   pub state : State
   pub kept : HoldsState cache state image
   pub at : MayGoAt state kept.layout found
+
+-- What a call does that evicts: each of these takes what the call left first, and then the state before and the eviction units that go.
+
+-- the new cache keeps the state without the units
+abbrev pub EvictedBy : (new : Cache) → (now : Told) → State → List Group → Type 0
+EvictedBy new now state groups = ForSome now.files (HoldsState new (without groups state))
+
+-- at each word of the steps that were made a prefix of the units is out
+abbrev pub EvictingBy : (told now : Told) → State → List Group → Type 0
+EvictingBy told now state groups = Passes told now (IsEvicting groups state)
+
+-- the lines of the units were printed, unless the output failed
+abbrev pub PrintedBy : {S : Type 0} → (failed_before failed : Bool) → (written : S → Option (List ℕ)) → (old new : S) → State → List Group → Type 0
+PrintedBy failed_before failed written old new state groups = PrintsUnlessFailed failed_before failed (written old) (written new) (evicted_text groups)
+
+-- a prefix of the lines of the units was printed
+abbrev pub BegunBy : {S : Type 0} → (written : S → Option (List ℕ)) → (old new : S) → State → List Group → Type 0
+BegunBy written old new state groups = Appends (written old) (written new) (evicted_text groups)
+
+-- P, one of these, holds of the units that go until the goal is met
+abbrev pub ForGoal : Cache → Covered → Told → Goal → (State → List Group → Type 0) → Type 0
+ForGoal cache parts told goal P = ForCovered cache parts told (λ state covered. P state (evicted_until (is_met goal) state covered))
+
+-- P holds of the one unit that begins with the item that was found
+abbrev pub ForUnit : Cache → Unpinned → Told → (State → List Group → Type 0) → Type 0
+ForUnit cache found told P = ForSome told.files (λ from. ForEachThatMayGo cache found from (λ state layout group. P state (group ∷ [])))

@@ -1,5 +1,5 @@
 -- A SparseWrite before space is made: the object that it names, and what it adds.
-use Rattle.std.specs.Prelude.{◌≡◌, ◌<◌, ◌+◌, ◌%◌, ℕ, List, false, if◌then◌else◌, length, true}
+use Rattle.std.specs.Prelude.{◌≡◌, ◌<◌, ◌+◌, ◌%◌, ℕ, List, [], false, if◌then◌else◌, length, true}
 use Rattle.std.specs.Int.{cast_signed, w64}
 use Rattle.std.specs.Option.{ForSome}
 use Rattle.std.specs.declared.option.Option.{Option}
@@ -28,9 +28,10 @@ use Rattle.blk_cache.specs.declared.sparse_target.AskedTarget.{AskedTarget}
 use Rattle.blk_cache.specs.declared.sparse_target.AskedTarget.TheVariants as target
 use Rattle.blk_cache.specs.declared.sparse_writing.SparseRequest.{SparseRequest}
 use Rattle.blk_cache.specs.CacheKeeping.{HoldsState}
+use Rattle.blk_cache.specs.CommandClauses.{CommandClause}
 use Rattle.blk_cache.specs.Covering.{AreCovered}
 use Rattle.blk_cache.specs.SparseAsking.{IsRangeInside, IsLiveNamed, early_sparse_refusal, sparse_refusal}
-use Rattle.blk_cache.specs.SparseWriting.{IsRaisedBy, IsSignedBy, covered_of, index_charge}
+use Rattle.blk_cache.specs.SparseWriting.{IsRaisedBy, IsSignedBy, covered_of, index_charge, sparse_write_of}
 
 -- The request.
 
@@ -118,3 +119,21 @@ AsksToStoreFor cache told request found rise = AsksToStore cache told request.mo
 -- and the request isn't refused
 abbrev pub HasRoomToStoreFor : Cache → Told → SparseRequest → Target → Rise → Type 0
 HasRoomToStoreFor cache told request found rise = HasRoomToStore cache told request.moment request.handle request.offset request.bytes.now found rise
+
+-- The commands.
+
+-- P holds of a SparseWrite that names the object of the target
+abbrev pub WhereNamed : Cache → Told → SparseRequest → Target → CommandClause → Type 0
+WhereNamed cache told request found P = NamesTargetFor cache told request found → P cache told request.moment (sparse_write_of request)
+
+-- P holds of a SparseWrite that names an object that may get its bytes, where `rise` is what they add
+abbrev pub WhereAsks : Cache → Told → SparseRequest → Target → Rise → CommandClause → Type 0
+WhereAsks cache told request found rise P = AsksToStoreFor cache told request found rise → P cache told request.moment (sparse_write_of request)
+
+-- and isn't refused
+abbrev pub WhereRoom : Cache → Told → SparseRequest → Target → Rise → CommandClause → Type 0
+WhereRoom cache told request found rise P = HasRoomToStoreFor cache told request found rise → P cache told request.moment (sparse_write_of request)
+
+-- P holds of each SparseWrite of no bytes that names the object of the target
+abbrev pub ForEmptyWrites : Cache → Told → (moment : ℕ) → Target → CommandClause → Type 0
+ForEmptyWrites cache told moment found P = (handle offset : ℕ) → NamesTarget cache told moment handle offset 0 found → P cache told moment (to_sparse_write handle offset [])

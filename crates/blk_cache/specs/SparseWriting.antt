@@ -2,6 +2,7 @@
 use Rattle.std.specs.Prelude.{◌≡◌, ◌<◌, ◌≤◌, ◌+◌, ◌%◌, ◌^◌, ℕ, List, [], false, if◌then◌else◌, length, map, true}
 use Rattle.std.specs.declared.option.Option.TheVariants.{None}
 use Rattle.spec_image.specs.Image.{Image}
+use Rattle.spec_image.specs.Told.{Told}
 use Rattle.blk_model.specs.Effects.{effect}
 use Rattle.blk_model.specs.Items.{part, plain, sparse}
 use Rattle.blk_model.specs.Refusals.{refused}
@@ -22,6 +23,7 @@ use Rattle.blk_cache.specs.declared.cache.Cache.{Cache}
 use Rattle.blk_cache.specs.declared.covered.Covered.{Covered}
 use Rattle.blk_cache.specs.declared.sparse_writing.SparseRequest.{SparseRequest}
 use Rattle.blk_cache.specs.CacheKeeping.{HoldsState}
+use Rattle.blk_cache.specs.CommandClauses.{CommandClause}
 use Rattle.blk_cache.specs.Covering.{AreCovered}
 use Rattle.blk_cache.specs.Creating.{sum_within}
 
@@ -30,6 +32,10 @@ use Rattle.blk_cache.specs.Creating.{sum_within}
 -- the SparseWrite of the model
 abbrev pub sparse_write_of : SparseRequest → Request
 sparse_write_of request = to_sparse_write request.handle request.offset request.bytes.now
+
+-- P holds of a SparseWrite
+abbrev pub ForSparseWrite : Cache → Told → SparseRequest → CommandClause → Type 0
+ForSparseWrite cache told request P = P cache told request.moment (sparse_write_of request)
 
 -- The object.
 

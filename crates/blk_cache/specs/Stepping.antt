@@ -1,5 +1,5 @@
 -- The contract of one step of a cache: a command, what it prints, and its completion marker.
-use Rattle.std.specs.Prelude.{ℕ, Bool, List, Result, Ok, Err}
+use Rattle.std.specs.Prelude.{ℕ, Bool, List, OnOk, Result, Ok, Err}
 use Rattle.std.specs.declared.option.Option.{Option}
 use Rattle.spec_image.specs.Image.{Image}
 use Rattle.spec_image.specs.Told.{Told}
@@ -7,6 +7,7 @@ use Rattle.blk_io.specs.Streams.{Appends}
 use Rattle.blk_io.specs.declared.fault.Damage.{Damage}
 use Rattle.blk_io.specs.declared.fault.Fault.{Fault}
 use Rattle.blk_io.specs.declared.fault.Fault.TheVariants as fault
+use Rattle.blk_model.specs.declared.Answer.{Answer}
 use Rattle.blk_model.specs.Request.{Request}
 use Rattle.blk_model.specs.State.{State}
 use Rattle.blk_model.specs.Step.{Outcome, step}
@@ -16,10 +17,18 @@ use Rattle.blk_cache.specs.declared.cache.Cache.{Cache}
 use Rattle.blk_cache.specs.declared.fault.StepFault.{StepFault}
 use Rattle.blk_cache.specs.declared.fault.StepFault.TheVariants as step_fault
 use Rattle.blk_cache.specs.CacheKeeping.{HoldsState}
-use Rattle.blk_cache.specs.CommandClauses.{SparesRefused}
-use Rattle.blk_evict.specs.RoomPrinting.{PrintsUnlessFailed}
+use Rattle.blk_cache.specs.CommandClauses.{CommandClause, SparesRefused}
+use Rattle.blk_evict.specs.RoomPrinting.{PrintsInPart, PrintsUnlessFailed}
 
 -- Printed texts.
+
+-- an output printed a text, unless it failed
+abbrev pub Puts : {S : Type 0} → (failed_before failed : Bool) → (written : S → Option (List ℕ)) → (old new : S) → List ℕ → Type 0
+Puts failed_before failed written old new = PrintsUnlessFailed failed_before failed (written old) (written new)
+
+-- an output printed a prefix of a text
+abbrev pub PutsPart : {S : Type 0} → (failed_before : Bool) → (written : S → Option (List ℕ)) → (old new : S) → List ℕ → Type 0
+PutsPart failed_before written old new = PrintsInPart failed_before (written old) (written new)
 
 -- the printed lines of what a command evicts, one for each item
 abbrev pub evicted_first : Outcome → List ℕ
@@ -32,6 +41,14 @@ SaysEvicted cache told moment request failed_before failed old new = ForKept (Ho
 -- a prefix of the lines of what the command evicts was printed, for each state that was kept before
 abbrev pub SaysPrefix : (State → Image → Type 0) → Told → (moment : ℕ) → Request → (old new : Option (List ℕ)) → Type 0
 SaysPrefix keeps told moment request old new = ForKept keeps told (λ state. Appends old new (evicted_first (step state moment request)))
+
+-- on an Ok the lines of what the command evicts were printed, unless the output failed
+abbrev pub SaidBy : {S : Type 0} → (failed_before failed : Bool) → (written : S → Option (List ℕ)) → (old new : S) → Result Answer Fault → CommandClause
+SaidBy failed_before failed written old new result cache told moment request = OnOk result (SaysEvicted cache told moment request failed_before failed (written old) (written new))
+
+-- a prefix of the lines of what the command evicts was printed
+abbrev pub FrontBy : {S : Type 0} → (written : S → Option (List ℕ)) → (old new : S) → CommandClause
+FrontBy written old new cache told moment request = SaysPrefix (HoldsState cache) told moment request (written old) (written new)
 
 -- Where the folder failed.
 

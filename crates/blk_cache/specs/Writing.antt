@@ -3,6 +3,7 @@ use Rattle.std.specs.Prelude.{◌≡◌, ◌<◌, ◌≤◌, ◌+◌, ◌-◌, �
 use Rattle.std.specs.declared.option.Option.{Option}
 use Rattle.std.specs.declared.option.Option.TheVariants.{None, Some}
 use Rattle.spec_image.specs.Image.{Image}
+use Rattle.spec_image.specs.Told.{Told}
 use Rattle.blk_model.specs.Effects.{stream_after, stream_of, written}
 use Rattle.blk_model.specs.Items.{is_sparse, main}
 use Rattle.blk_model.specs.Refusals.{first_refusal, no_room, no_stream, refused}
@@ -27,6 +28,7 @@ use Rattle.blk_cache.specs.declared.cache.Cache.{Cache}
 use Rattle.blk_cache.specs.declared.write.WriteRequest.{WriteRequest}
 use Rattle.blk_cache.specs.Asking.{IsNamedStream}
 use Rattle.blk_cache.specs.CacheKeeping.{HoldsState}
+use Rattle.blk_cache.specs.CommandClauses.{CommandClause}
 use Rattle.blk_cache.specs.Creating.{sum_within}
 
 -- The request.
@@ -34,6 +36,10 @@ use Rattle.blk_cache.specs.Creating.{sum_within}
 -- the Write of the model
 abbrev pub write_of : WriteRequest → Request
 write_of request = to_write request.handle request.stream request.offset request.cut request.bytes.now
+
+-- P holds of a Write
+abbrev pub ForWrite : Cache → Told → WriteRequest → CommandClause → Type 0
+ForWrite cache told request P = P cache told request.moment (write_of request)
 
 -- Refusals.
 

@@ -1,5 +1,5 @@
 // The command Close.
-ghost use Rattle.std.specs.Prelude.{◌≡◌, IfOk, IfSome, IsSome, IsTrue, None, Ok, OnOk, false, if◌then◌else◌, slice_set, true, ℕ, OnErr};
+ghost use Rattle.std.specs.Prelude.{◌≡◌, IfOk, IfSome, IsSome, IsTrue, None, Ok, OnOk, false, if◌then◌else◌, slice_set, true, ℕ};
 ghost use Rattle.std.specs.Option.{ForSome};
 ghost use Rattle.spec_image.specs.Told.{Stays, MayWrite};
 ghost use Rattle.blk_io.specs.Faults.{IfDamaged, IfDevice};
@@ -10,12 +10,10 @@ ghost use Rattle.blk_disk.specs.Tables.{is_node_among, stands_among};
 ghost use Rattle.blk_model.specs.declared.Answer.TheVariants as answer;
 ghost use Rattle.blk_model.specs.declared.Refusal.TheVariants as refusal;
 ghost use Rattle.blk_handles.specs.Bindings.{AreShared, binding_of, is_open, open_object};
-ghost use Rattle.law_state.specs.Commands.{Does, MayStopAtEach};
 ghost use Rattle.blk_object.specs.Ending.{Cleans, FreesAll, MayEndObject};
 ghost use Rattle.blk_object.specs.FailedChecks.{IsFailedCheck};
-ghost use Rattle.blk_cache.specs.CacheKeeping.{HoldsState};
 ghost use Rattle.blk_cache.specs.Closing.{CountsClosed};
-ghost use Rattle.blk_cache.specs.CommandClauses.{IsRefused, KeepsAny, OnlyNamesChange, SparesRefused};
+ghost use Rattle.blk_cache.specs.CommandClauses.{DoneBy, ForCall, IsRefused, KeepsAny, OnlyNamesChange, SparedBy, StopsBy, UndamagedWhere};
 
 use crate::cache::Cache;
 use blk_evict::read_charge;
@@ -34,8 +32,8 @@ impl Cache {
     /// places takes seven at most. After a fault nothing is promised of the cache but that it can be dropped.
     pub(crate) fn close<F: Folder>(&mut self, folder: &mut F, handle: u16) -> Result<Answer, Fault>
         requires is_open { ForSome (F.told folder.old).files (IsOpen self.old.files) }
-        ensures does { (moment : ℕ) → IfOk result (λ answer. Does (HoldsState self.old) (HoldsState self.new) (F.told folder.old) (F.told folder.new) moment (to_close handle) answer) }
-        ensures stops { (moment : ℕ) → MayStopAtEach (HoldsState self.old) (F.told folder.old) (F.told folder.new) moment (to_close handle) }
+        ensures does { (moment : ℕ) → ForCall self.old (F.told folder.old) moment (to_close handle) (DoneBy self.new (F.told folder.new) result) }
+        ensures stops { (moment : ℕ) → ForCall self.old (F.told folder.old) moment (to_close handle) (StopsBy (F.told folder.new)) }
 
         // A name that is free is refused on every folder, and a refusal does nothing.
         ensures refuses { binding_of self.old.handles handle ≡ None → result ≡ Ok (answer.Refused refusal.BadHandle) }
@@ -45,7 +43,7 @@ impl Cache {
         // One that is bound is free then, on every folder, and the other names are bound as before.
         ensures frees { IsSome (binding_of self.old.handles handle) → OnOk result (self.new.handles ≡ slice_set self.old.handles handle None) }
 
-        ensures spares { (moment : ℕ) → OnErr result (SparesRefused (HoldsState self.old) (F.told folder.old) (F.told folder.new) moment (to_close handle)) }
+        ensures spares { (moment : ℕ) → ForCall self.old (F.told folder.old) moment (to_close handle) (SparedBy (F.told folder.new) result) }
         ensures is_open { ForSome (F.told folder.new).files (IsOpen self.new.files) }
         ensures notes { self.new.notes ≡ self.old.notes }
         ensures mark { self.new.mark ≡ self.old.mark }
@@ -54,7 +52,7 @@ impl Cache {
         ensures damaged { IfDamaged result (IsFailedCheck self.new.files (F.told folder.new)) }
 
         // An observable folder reports no corruption where the cache keeps a state.
-        ensures untold { ForSome (F.told folder.old).files (KeepsAny self.old) → IfDamaged result (λ _. (F.told folder.old).files ≡ None) }
+        ensures untold { UndamagedWhere result (F.told folder.old) (KeepsAny self.old) }
         ensures writes { MayWrite F.told F.faults folder.old folder.new (IfDevice result) }
     {
         if self.handles.object(handle).is_none() {
@@ -102,7 +100,7 @@ impl Cache {
         ensures counts { CountsClosed self.old self.new object.now.doomed charge }
         ensures is_open { ForSome (F.told folder.new).files (IsOpen self.new.files) }
         ensures damaged { IfDamaged result (IsFailedCheck self.new.files (F.told folder.new)) }
-        ensures untold { ForSome (F.told folder.old).files (MayEndObject object.now.doomed object.now.entry object.now.node) → IfDamaged result (λ _. (F.told folder.old).files ≡ None) }
+        ensures untold { UndamagedWhere result (F.told folder.old) (MayEndObject object.now.doomed object.now.entry object.now.node) }
         ensures writes { MayWrite F.told F.faults folder.old folder.new (IfDevice result) }
     {
         self.count_closed(object.doomed, charge);

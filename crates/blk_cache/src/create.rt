@@ -1,5 +1,5 @@
 // A new object in a cache.
-ghost use Rattle.std.specs.Prelude.{◌≡◌, ◌≤◌, ◌<◌, ℕ, Bool, IfOk, IfSome, IsTrue, List, None, Ok, OnOk, Option, Some, false, length, slice_set, true, OnErr};
+ghost use Rattle.std.specs.Prelude.{◌≡◌, ◌≤◌, ◌<◌, ℕ, Bool, IfOk, IfSome, IsTrue, List, None, Ok, OnOk, Option, Some, false, length, slice_set, true};
 ghost use Rattle.std.specs.Option.{ForSome};
 ghost use Rattle.spec_image.specs.Told.{Passes, Stays, Told, MayWrite, ReadsOnly};
 ghost use Rattle.blk_io.specs.Faults.{IfDamaged, IfDevice};
@@ -20,11 +20,11 @@ ghost use Rattle.law_state.specs.Commands.{Does, IsDone, MayStop, MayStopAtEach}
 ghost use Rattle.blk_object.specs.FailedChecks.{IsFailedCheck};
 ghost use Rattle.blk_object.specs.Making.{CanHaveNew};
 ghost use Rattle.blk_cache.specs.CacheKeeping.{HoldsState};
-ghost use Rattle.blk_cache.specs.CommandClauses.{IsRefused, KeepsAny, open_refusal, SparesRefused};
-ghost use Rattle.blk_cache.specs.Creating.{CountsOneMore, HasRoomFor, IsNotRefused, IsReadyForSome, IsReadyToCreate, KeepsWithRoom, WantsRoomAlone, create_refusal};
+ghost use Rattle.blk_cache.specs.CommandClauses.{DoneBy, ForCall, IsRefused, KeepsAny, SparedBy, StopsBy, UndamagedBy, UndamagedWhere, open_refusal};
+ghost use Rattle.blk_cache.specs.Creating.{CountsOneMore, HasRoomFor, IsNotRefused, IsReadyForSome, IsReadyToCreate, KeepsWithRoom, WantsRoomAlone, WhereNotRefused, WhereWantsRoom, create_refusal};
 ghost use Rattle.blk_evict.specs.Looking.{IsLookUpDamage};
 ghost use Rattle.blk_evict.specs.RoomPrinting.{FailsWhereItRose};
-ghost use Rattle.blk_cache.specs.Stepping.{SaysEvicted, SaysPrefix};
+ghost use Rattle.blk_cache.specs.Stepping.{FrontBy, SaidBy, SaysEvicted, SaysPrefix};
 
 use crate::cache::Cache;
 use crate::covered::Covered;
@@ -52,12 +52,12 @@ impl Cache {
         moment: u64,
     ) -> Result<Answer, Fault>
         requires is_open { ForSome (F.told folder.old).files (IsOpen self.old.files) }
-        ensures does { IfOk result (λ answer. Does (HoldsState self.old) (HoldsState self.new) (F.told folder.old) (F.told folder.new) moment (to_create handle key.now) answer) }
-        ensures stops { MayStopAtEach (HoldsState self.old) (F.told folder.old) (F.told folder.new) moment (to_create handle key.now) }
+        ensures does { ForCall self.old (F.told folder.old) moment (to_create handle key.now) (DoneBy self.new (F.told folder.new) result) }
+        ensures stops { ForCall self.old (F.told folder.old) moment (to_create handle key.now) (StopsBy (F.told folder.new)) }
 
         // What it evicts is printed, and on any answer a prefix of that.
-        ensures says { OnOk result (SaysEvicted self.old (F.told folder.old) moment (to_create handle key.now) failed.old failed.new (K.written out.old) (K.written out.new)) }
-        ensures front { SaysPrefix (HoldsState self.old) (F.told folder.old) moment (to_create handle key.now) (K.written out.old) (K.written out.new) }
+        ensures says { ForCall self.old (F.told folder.old) moment (to_create handle key.now) (SaidBy failed.old failed.new K.written out.old out.new result) }
+        ensures front { ForCall self.old (F.told folder.old) moment (to_create handle key.now) (FrontBy K.written out.old out.new) }
         ensures fails { FailsWhereItRose failed.old failed.new (K.faults out.old) (K.faults out.new) }
 
         // A refusal that the handles and the key alone decide is given on every folder, and a refusal does nothing.
@@ -65,7 +65,7 @@ impl Cache {
         ensures quiet { IfOk result (λ answer. IsRefused answer → Stays (F.told folder.old) (F.told folder.new)) }
         ensures unchanged { IfOk result (λ answer. IsRefused answer → self.new ≡ self.old) }
 
-        ensures spares { OnErr result (SparesRefused (HoldsState self.old) (F.told folder.old) (F.told folder.new) moment (to_create handle key.now)) }
+        ensures spares { ForCall self.old (F.told folder.old) moment (to_create handle key.now) (SparedBy (F.told folder.new) result) }
         ensures is_open { OnOk result (ForSome (F.told folder.new).files (IsOpen self.new.files)) }
         ensures notes { self.new.notes ≡ self.old.notes }
         ensures mark { self.new.mark ≡ self.old.mark }
@@ -74,7 +74,7 @@ impl Cache {
         ensures damaged { IfDamaged result (IsFailedCheck self.new.files (F.told folder.new)) }
 
         // An observable folder reports no corruption where the cache keeps a state.
-        ensures untold { ForSome (F.told folder.old).files (KeepsAny self.old) → IfDamaged result (λ _. (F.told folder.old).files ≡ None) }
+        ensures untold { UndamagedWhere result (F.told folder.old) (KeepsAny self.old) }
         ensures writes { MayWrite F.told F.faults folder.old folder.new (IfDevice result) }
         ensures sink_later { GoesOn K.is K.faults out.old out.new }
     {
@@ -103,24 +103,24 @@ impl Cache {
         requires is_open { ForSome (F.told folder.old).files (IsOpen self.old.files) }
 
         // The Create is done as in the model, and after each single write the folder is as a crash in it may leave it.
-        ensures does { WantsRoomAlone self.old (F.told folder.old) moment handle key.now → IfOk result (λ answer. Does (HoldsState self.old) (HoldsState self.new) (F.told folder.old) (F.told folder.new) moment (to_create handle key.now) answer) }
-        ensures stops { WantsRoomAlone self.old (F.told folder.old) moment handle key.now → MayStopAtEach (HoldsState self.old) (F.told folder.old) (F.told folder.new) moment (to_create handle key.now) }
+        ensures does { WhereWantsRoom self.old (F.told folder.old) moment handle key.now (DoneBy self.new (F.told folder.new) result) }
+        ensures stops { WhereWantsRoom self.old (F.told folder.old) moment handle key.now (StopsBy (F.told folder.new)) }
 
         // What it evicts is printed, and on any answer a prefix of that.
-        ensures says { WantsRoomAlone self.old (F.told folder.old) moment handle key.now → OnOk result (SaysEvicted self.old (F.told folder.old) moment (to_create handle key.now) failed.old failed.new (K.written out.old) (K.written out.new)) }
-        ensures front { WantsRoomAlone self.old (F.told folder.old) moment handle key.now → SaysPrefix (HoldsState self.old) (F.told folder.old) moment (to_create handle key.now) (K.written out.old) (K.written out.new) }
+        ensures says { WhereWantsRoom self.old (F.told folder.old) moment handle key.now (SaidBy failed.old failed.new K.written out.old out.new result) }
+        ensures front { WhereWantsRoom self.old (F.told folder.old) moment handle key.now (FrontBy K.written out.old out.new) }
         ensures fails { FailsWhereItRose failed.old failed.new (K.faults out.old) (K.faults out.new) }
 
         // A refusal does nothing.
         ensures quiet { IfOk result (λ answer. IsRefused answer → Stays (F.told folder.old) (F.told folder.new)) }
         ensures unchanged { IfOk result (λ answer. IsRefused answer → self.new ≡ self.old) }
 
-        ensures spares { WantsRoomAlone self.old (F.told folder.old) moment handle key.now → OnErr result (SparesRefused (HoldsState self.old) (F.told folder.old) (F.told folder.new) moment (to_create handle key.now)) }
+        ensures spares { WhereWantsRoom self.old (F.told folder.old) moment handle key.now (SparedBy (F.told folder.new) result) }
         ensures is_open { OnOk result (ForSome (F.told folder.new).files (IsOpen self.new.files)) }
         ensures notes { self.new.notes ≡ self.old.notes }
         ensures mark { self.new.mark ≡ self.old.mark }
         ensures damaged { IfDamaged result (IsFailedCheck self.new.files (F.told folder.new)) }
-        ensures untold { WantsRoomAlone self.old (F.told folder.old) moment handle key.now → ForSome (F.told folder.old).files (KeepsAny self.old) → IfDamaged result (λ _. (F.told folder.old).files ≡ None) }
+        ensures untold { WhereWantsRoom self.old (F.told folder.old) moment handle key.now (UndamagedBy result) }
         ensures writes { MayWrite F.told F.faults folder.old folder.new (IfDevice result) }
         ensures sink_later { GoesOn K.is K.faults out.old out.new }
     {
@@ -161,12 +161,12 @@ impl Cache {
         requires is_open { ForSome (F.told folder.old).files (IsOpen self.old.files) }
 
         // The Create is done as in the model, and after each single write the folder is as a crash in it may leave it.
-        ensures does { IsNotRefused self.old (F.told folder.old) moment handle key.now → IfOk result (λ answer. Does (HoldsState self.old) (HoldsState self.new) (F.told folder.old) (F.told folder.new) moment (to_create handle key.now) answer) }
-        ensures stops { IsNotRefused self.old (F.told folder.old) moment handle key.now → MayStopAtEach (HoldsState self.old) (F.told folder.old) (F.told folder.new) moment (to_create handle key.now) }
+        ensures does { WhereNotRefused self.old (F.told folder.old) moment handle key.now (DoneBy self.new (F.told folder.new) result) }
+        ensures stops { WhereNotRefused self.old (F.told folder.old) moment handle key.now (StopsBy (F.told folder.new)) }
 
         // What it evicts is printed, and on any answer a prefix of that.
-        ensures says { IsNotRefused self.old (F.told folder.old) moment handle key.now → OnOk result (SaysEvicted self.old (F.told folder.old) moment (to_create handle key.now) failed.old failed.new (K.written out.old) (K.written out.new)) }
-        ensures front { IsNotRefused self.old (F.told folder.old) moment handle key.now → SaysPrefix (HoldsState self.old) (F.told folder.old) moment (to_create handle key.now) (K.written out.old) (K.written out.new) }
+        ensures says { WhereNotRefused self.old (F.told folder.old) moment handle key.now (SaidBy failed.old failed.new K.written out.old out.new result) }
+        ensures front { WhereNotRefused self.old (F.told folder.old) moment handle key.now (FrontBy K.written out.old out.new) }
         ensures fails { FailsWhereItRose failed.old failed.new (K.faults out.old) (K.faults out.new) }
 
         // A refusal does nothing: none is left.
@@ -177,7 +177,7 @@ impl Cache {
         ensures notes { self.new.notes ≡ self.old.notes }
         ensures mark { self.new.mark ≡ self.old.mark }
         ensures damaged { IfDamaged result (IsFailedCheck self.new.files (F.told folder.new)) }
-        ensures untold { IsNotRefused self.old (F.told folder.old) moment handle key.now → ForSome (F.told folder.old).files (KeepsAny self.old) → IfDamaged result (λ _. (F.told folder.old).files ≡ None) }
+        ensures untold { WhereNotRefused self.old (F.told folder.old) moment handle key.now (UndamagedBy result) }
         ensures writes { MayWrite F.told F.faults folder.old folder.new (IfDevice result) }
         ensures sink_later { GoesOn K.is K.faults out.old out.new }
     {
@@ -208,7 +208,7 @@ impl Cache {
         ensures mark { self.new.mark ≡ self.old.mark }
         ensures is_open { OnOk result (ForSome (F.told folder.new).files (IsOpen self.new.files)) }
         ensures damaged { IfDamaged result (IsFailedCheck self.new.files (F.told folder.new)) }
-        ensures untold { ForSome (F.told folder.old).files (IsReadyForSome self.old handle key.now) → IfDamaged result (λ _. (F.told folder.old).files ≡ None) }
+        ensures untold { UndamagedWhere result (F.told folder.old) (IsReadyForSome self.old handle key.now) }
         ensures writes { MayWrite F.told F.faults folder.old folder.new (IfDevice result) }
     {
         self.make_object(folder, handle, key, moment)?;
@@ -247,7 +247,7 @@ impl Cache {
         ensures damaged { IfDamaged result (IsFailedCheck self.new.files (F.told folder.new)) }
 
         // An observable folder reports no corruption where the cache keeps such a state.
-        ensures untold { ForSome (F.told folder.old).files (KeepsWithRoom self.old handle key.now) → IfDamaged result (λ _. (F.told folder.old).files ≡ None) }
+        ensures untold { UndamagedWhere result (F.told folder.old) (KeepsWithRoom self.old handle key.now) }
         ensures writes { MayWrite F.told F.faults folder.old folder.new (IfDevice result) }
     {
         let made = make_entry(folder, &mut self.files, key, self.mark, moment)?;
@@ -278,7 +278,7 @@ impl Cache {
 
         // An observable folder reports no corruption where the cache keeps a state.
         ensures damaged { IfDamaged result (IsLookUpDamage self.now.files (F.told folder.old) key.now) }
-        ensures untold { ForSome (F.told folder.old).files (IsOpen self.now.files) → ForSome (F.told folder.old).files (KeepsAny self.now) → IfDamaged result (λ _. (F.told folder.old).files ≡ None) }
+        ensures untold { ForSome (F.told folder.old).files (IsOpen self.now.files) → UndamagedWhere result (F.told folder.old) (KeepsAny self.now) }
     {
         if let Some(why) = self.refuses_open(handle, key) {
             return Ok(Some(why));

@@ -1,19 +1,16 @@
 // The command Doom.
-ghost use Rattle.std.specs.Prelude.{◌≡◌, ℕ, IfOk, IfSome, IsTrue, None, Ok, OnOk, Some, OnErr};
+ghost use Rattle.std.specs.Prelude.{◌≡◌, ℕ, IfOk, IfSome, IsTrue, Ok, OnOk};
 ghost use Rattle.std.specs.Option.{ForSome};
-ghost use Rattle.spec_image.specs.Told.{Passes, Stays, MayWrite};
+ghost use Rattle.spec_image.specs.Told.{Stays, MayWrite};
 ghost use Rattle.blk_io.specs.Faults.{IfDamaged, IfDevice};
-ghost use Rattle.blk_model.specs.Effects.{doomed};
 ghost use Rattle.blk_model.specs.Request.{to_doom};
 ghost use Rattle.blk_model.specs.declared.Answer.TheVariants as answer;
 ghost use Rattle.blk_disk.specs.Open.{IsOpen};
 ghost use Rattle.blk_disk.specs.Tables.{is_node_among, is_record_among};
-ghost use Rattle.law_state.specs.Commands.{Does, MayStopAtEach};
 ghost use Rattle.blk_object.specs.FailedChecks.{IsFailedCheck};
-ghost use Rattle.blk_object.specs.RemovingObjects.{FindsEither};
-ghost use Rattle.blk_cache.specs.CacheKeeping.{HoldsState};
-ghost use Rattle.blk_cache.specs.CommandClauses.{IsRefused, KeepsAny, SparesRefused};
-ghost use Rattle.blk_cache.specs.Dooming.{CountsDoomed, ForEachOpen, doom_refusal};
+ghost use Rattle.blk_cache.specs.CommandClauses.{DoneBy, ForCall, IsRefused, KeepsAny, SparedBy, StopsBy, UndamagedWhere};
+ghost use Rattle.blk_cache.specs.Dooming.{CacheDoomedBy, CacheDoomingBy, CacheUndamagedAt, CountsDoomed, ForEachOpen, doom_refusal};
+ghost use Rattle.blk_cache.specs.DoomingObjects.{ForTold};
 
 use crate::cache::Cache;
 use crate::dooming_objects::doom_named;
@@ -31,15 +28,15 @@ impl Cache {
     /// more for each further one. After a fault nothing is promised of the cache but that it can be dropped.
     pub(crate) fn doom<F: Folder>(&mut self, folder: &mut F, handle: u16) -> Result<Answer, Fault>
         requires is_open { ForSome (F.told folder.old).files (IsOpen self.old.files) }
-        ensures does { (moment : ℕ) → IfOk result (λ answer. Does (HoldsState self.old) (HoldsState self.new) (F.told folder.old) (F.told folder.new) moment (to_doom handle) answer) }
-        ensures stops { (moment : ℕ) → MayStopAtEach (HoldsState self.old) (F.told folder.old) (F.told folder.new) moment (to_doom handle) }
+        ensures does { (moment : ℕ) → ForCall self.old (F.told folder.old) moment (to_doom handle) (DoneBy self.new (F.told folder.new) result) }
+        ensures stops { (moment : ℕ) → ForCall self.old (F.told folder.old) moment (to_doom handle) (StopsBy (F.told folder.new)) }
 
         // A refusal that the handles alone decide is given on every folder, and a refusal does nothing.
         ensures refuses { IfSome (doom_refusal self.old.handles handle) (λ why. result ≡ Ok (answer.Refused why)) }
         ensures quiet { IfOk result (λ answer. IsRefused answer → Stays (F.told folder.old) (F.told folder.new)) }
         ensures unchanged { IfOk result (λ answer. IsRefused answer → self.new ≡ self.old) }
 
-        ensures spares { (moment : ℕ) → OnErr result (SparesRefused (HoldsState self.old) (F.told folder.old) (F.told folder.new) moment (to_doom handle)) }
+        ensures spares { (moment : ℕ) → ForCall self.old (F.told folder.old) moment (to_doom handle) (SparedBy (F.told folder.new) result) }
         ensures is_open { ForSome (F.told folder.new).files (IsOpen self.new.files) }
         ensures notes { self.new.notes ≡ self.old.notes }
         ensures mark { self.new.mark ≡ self.old.mark }
@@ -48,7 +45,7 @@ impl Cache {
         ensures damaged { IfDamaged result (IsFailedCheck self.new.files (F.told folder.new)) }
 
         // An observable folder reports no corruption where the cache keeps a state.
-        ensures untold { ForSome (F.told folder.old).files (KeepsAny self.old) → IfDamaged result (λ _. (F.told folder.old).files ≡ None) }
+        ensures untold { UndamagedWhere result (F.told folder.old) (KeepsAny self.old) }
         ensures writes { MayWrite F.told F.faults folder.old folder.new (IfDevice result) }
     {
         let Some(object) = self.handles.object(handle) else {
@@ -66,13 +63,13 @@ impl Cache {
         requires names { IsTrue (is_record_among self.old.files entry) }
         requires node { IsTrue (is_node_among self.old.files node) }
         requires is_open { ForSome (F.told folder.old).files (IsOpen self.old.files) }
-        ensures dooms { OnOk result (ForSome (F.told folder.old).files (λ from. ForEachOpen self.old node entry from (λ state number object. ForSome (F.told folder.new).files (HoldsState self.new (doomed number state (Some object)))))) }
-        ensures stops { ForSome (F.told folder.old).files (λ from. ForEachOpen self.old node entry from (λ state number object. Passes (F.told folder.old) (F.told folder.new) (FindsEither state (doomed number state (Some object))))) }
+        ensures dooms { OnOk result (ForTold (F.told folder.old) (ForEachOpen self.old node entry) (CacheDoomedBy self.new (F.told folder.new))) }
+        ensures stops { ForTold (F.told folder.old) (ForEachOpen self.old node entry) (CacheDoomingBy (F.told folder.old) (F.told folder.new)) }
         ensures is_open { ForSome (F.told folder.new).files (IsOpen self.new.files) }
         ensures notes { self.new.notes ≡ self.old.notes }
         ensures mark { self.new.mark ≡ self.old.mark }
         ensures damaged { IfDamaged result (IsFailedCheck self.new.files (F.told folder.new)) }
-        ensures untold { ForSome (F.told folder.old).files (λ from. ForEachOpen self.old node entry from (λ state number object. IfDamaged result (λ _. (F.told folder.old).files ≡ None))) }
+        ensures untold { ForTold (F.told folder.old) (ForEachOpen self.old node entry) (CacheUndamagedAt result (F.told folder.old)) }
         ensures writes { MayWrite F.told F.faults folder.old folder.new (IfDevice result) }
     {
         let gone = doom_named(folder, &self.files, &mut self.name, entry, node)?;

@@ -1,9 +1,8 @@
 // The command DoomKey.
-ghost use Rattle.std.specs.Prelude.{◌≡◌, ◌≤◌, ℕ, IfOk, IfSome, IsTrue, None, Ok, OnOk, Some, length, OnErr};
+ghost use Rattle.std.specs.Prelude.{◌≡◌, ◌≤◌, ℕ, IfOk, IfSome, IsTrue, Ok, OnOk, length};
 ghost use Rattle.std.specs.Option.{ForSome};
-ghost use Rattle.spec_image.specs.Told.{Passes, Stays, MayWrite};
+ghost use Rattle.spec_image.specs.Told.{Stays, MayWrite};
 ghost use Rattle.blk_io.specs.Faults.{IfDamaged, IfDevice};
-ghost use Rattle.blk_model.specs.Effects.{doomed};
 ghost use Rattle.blk_model.specs.Refusals.{no_key};
 ghost use Rattle.blk_model.specs.Request.{to_doom_key};
 ghost use Rattle.blk_model.specs.Sizes.{longest_key};
@@ -12,12 +11,10 @@ ghost use Rattle.blk_model.specs.declared.Refusal.TheVariants as refusal;
 ghost use Rattle.spec_format.specs.Address.{blocks_256, kind_of};
 ghost use Rattle.blk_disk.specs.Open.{IsOpen};
 ghost use Rattle.blk_disk.specs.Tables.{is_node_among, stands_among};
-ghost use Rattle.law_state.specs.Commands.{Does, MayStopAtEach};
 ghost use Rattle.blk_object.specs.FailedChecks.{IsFailedCheck};
-ghost use Rattle.blk_object.specs.RemovingObjects.{FindsEither};
-ghost use Rattle.blk_cache.specs.CacheKeeping.{HoldsState};
-ghost use Rattle.blk_cache.specs.CommandClauses.{IsRefused, KeepsAny, SparesRefused};
-ghost use Rattle.blk_cache.specs.Dooming.{ForEachKept};
+ghost use Rattle.blk_cache.specs.CommandClauses.{DoneBy, ForCall, IsRefused, KeepsAny, SparedBy, StopsBy, UndamagedWhere};
+ghost use Rattle.blk_cache.specs.Dooming.{CacheDoomedBy, CacheDoomingBy, CacheUndamagedAt, ForEachKept};
+ghost use Rattle.blk_cache.specs.DoomingObjects.{ForTold};
 
 use crate::cache::Cache;
 use crate::dooming_objects::{Target, doom_target, find_target};
@@ -36,15 +33,15 @@ impl Cache {
         key: &[u8],
     ) -> Result<Answer, Fault>
         requires is_open { ForSome (F.told folder.old).files (IsOpen self.old.files) }
-        ensures does { (moment : ℕ) → IfOk result (λ answer. Does (HoldsState self.old) (HoldsState self.new) (F.told folder.old) (F.told folder.new) moment (to_doom_key key.now) answer) }
-        ensures stops { (moment : ℕ) → MayStopAtEach (HoldsState self.old) (F.told folder.old) (F.told folder.new) moment (to_doom_key key.now) }
+        ensures does { (moment : ℕ) → ForCall self.old (F.told folder.old) moment (to_doom_key key.now) (DoneBy self.new (F.told folder.new) result) }
+        ensures stops { (moment : ℕ) → ForCall self.old (F.told folder.old) moment (to_doom_key key.now) (StopsBy (F.told folder.new)) }
 
         // A key that is none is refused on every folder, and a refusal does nothing.
         ensures refuses { IsTrue (no_key key.now) → result ≡ Ok (answer.Refused refusal.BadKey) }
         ensures quiet { IfOk result (λ answer. IsRefused answer → Stays (F.told folder.old) (F.told folder.new)) }
         ensures unchanged { IfOk result (λ answer. IsRefused answer → self.new ≡ self.old) }
 
-        ensures spares { (moment : ℕ) → OnErr result (SparesRefused (HoldsState self.old) (F.told folder.old) (F.told folder.new) moment (to_doom_key key.now)) }
+        ensures spares { (moment : ℕ) → ForCall self.old (F.told folder.old) moment (to_doom_key key.now) (SparedBy (F.told folder.new) result) }
         ensures is_open { ForSome (F.told folder.new).files (IsOpen self.new.files) }
         ensures notes { self.new.notes ≡ self.old.notes }
         ensures mark { self.new.mark ≡ self.old.mark }
@@ -53,7 +50,7 @@ impl Cache {
         ensures damaged { IfDamaged result (IsFailedCheck self.new.files (F.told folder.new)) }
 
         // An observable folder reports no corruption where the cache keeps a state.
-        ensures untold { ForSome (F.told folder.old).files (KeepsAny self.old) → IfDamaged result (λ _. (F.told folder.old).files ≡ None) }
+        ensures untold { UndamagedWhere result (F.told folder.old) (KeepsAny self.old) }
         ensures writes { MayWrite F.told F.faults folder.old folder.new (IfDevice result) }
     {
         if is_no_key(key) {
@@ -81,13 +78,13 @@ impl Cache {
         requires kind_before { IfSome target.now.found.before (λ before. kind_of before ≡ blocks_256) }
         requires stands_before { IfSome target.now.found.before (λ before. IsTrue (stands_among self.old.files before)) }
         requires is_open { ForSome (F.told folder.old).files (IsOpen self.old.files) }
-        ensures dooms { OnOk result (ForSome (F.told folder.old).files (λ from. ForEachKept self.old key.now target.now from (λ state number object. ForSome (F.told folder.new).files (HoldsState self.new (doomed number state (Some object)))))) }
-        ensures stops { ForSome (F.told folder.old).files (λ from. ForEachKept self.old key.now target.now from (λ state number object. Passes (F.told folder.old) (F.told folder.new) (FindsEither state (doomed number state (Some object))))) }
+        ensures dooms { OnOk result (ForTold (F.told folder.old) (ForEachKept self.old key.now target.now) (CacheDoomedBy self.new (F.told folder.new))) }
+        ensures stops { ForTold (F.told folder.old) (ForEachKept self.old key.now target.now) (CacheDoomingBy (F.told folder.old) (F.told folder.new)) }
         ensures is_open { ForSome (F.told folder.new).files (IsOpen self.new.files) }
         ensures notes { self.new.notes ≡ self.old.notes }
         ensures mark { self.new.mark ≡ self.old.mark }
         ensures damaged { IfDamaged result (IsFailedCheck self.new.files (F.told folder.new)) }
-        ensures untold { ForSome (F.told folder.old).files (λ from. ForEachKept self.old key.now target.now from (λ state number object. IfDamaged result (λ _. (F.told folder.old).files ≡ None))) }
+        ensures untold { ForTold (F.told folder.old) (ForEachKept self.old key.now target.now) (CacheUndamagedAt result (F.told folder.old)) }
         ensures writes { MayWrite F.told F.faults folder.old folder.new (IfDevice result) }
     {
         let entry = target.found.entry;

@@ -1,5 +1,5 @@
 // A live object is doomed in a folder.
-ghost use Rattle.std.specs.Prelude.{◌≡◌, ◌≤◌, ℕ, IfOk, IfSome, IsTrue, List, None, OnOk, Some, false, length, true};
+ghost use Rattle.std.specs.Prelude.{◌≡◌, ◌≤◌, ℕ, IfOk, IfSome, IsTrue, List, OnOk, Some, false, length, true};
 ghost use Rattle.std.specs.Option.{ForSome};
 ghost use Rattle.spec_image.specs.Told.{Passes, MayWrite, ReadsOnly};
 ghost use Rattle.blk_io.specs.Faults.{IfDamaged, IfDevice};
@@ -15,7 +15,8 @@ ghost use Rattle.law_state.specs.Changes.{SameSession};
 ghost use Rattle.law_state.specs.Keeping.{KeepsUncounted};
 ghost use Rattle.blk_object.specs.FailedChecks.{IsFailedCheck};
 ghost use Rattle.blk_object.specs.RemovingObjects.{FindsEither};
-ghost use Rattle.blk_cache.specs.DoomingObjects.{ForEachOpenAt, ForEachDoomTarget, ForEachWithKey, IsDoomed, IsDoomTarget, has_index};
+ghost use Rattle.blk_cache.specs.DoomingObjects.{DoomedBy, DoomingBy, ForEachDoomTarget, ForEachOpenAt, ForEachWithKey, ForTold, IsDoomTarget, UndamagedAt, has_index};
+ghost use Rattle.blk_cache.specs.CommandClauses.{OpaqueIfDamaged, UndamagedWhere};
 ghost use Rattle.blk_evict.specs.Looking.{IsLookUpDamage, KeepsSomeState};
 ghost use Rattle.blk_evict.specs.NameBuffer.{name_buffer_len};
 ghost use Rattle.blk_sparse.specs.Parents.{ForEachParent, IsGoneWhole, IsGroupTold};
@@ -56,7 +57,7 @@ pub fn find_target<F: Folder>(
     ensures stands_before { IfOk result (λ answer. IfSome answer (λ target. IfSome target.found.before (λ before. IsTrue (stands_among files.now before)))) }
     ensures reads { ReadsOnly F.told F.faults folder.old folder.new (IfDevice result) }
     ensures damaged { IfDamaged result (IsLookUpDamage files.now (F.told folder.old) key.now) }
-    ensures untold { ForSome (F.told folder.old).files (IsOpen files.now) → ForSome (F.told folder.old).files KeepsSomeState → IfDamaged result (λ _. (F.told folder.old).files ≡ None) }
+    ensures untold { ForSome (F.told folder.old).files (IsOpen files.now) → UndamagedWhere result (F.told folder.old) KeepsSomeState }
 {
     let Some(found) = find(folder, files, key, false)? else {
         return Ok(None);
@@ -85,11 +86,11 @@ pub fn doom_named<F: Folder>(
     requires names { IsTrue (is_record_among files.now entry) }
     requires node { IsTrue (is_node_among files.now node) }
     requires is_open { ForSome (F.told folder.old).files (IsOpen files.now) }
-    ensures doomed { IfOk result (λ gone. ForSome (F.told folder.old).files (λ from. ForEachOpenAt node entry from (λ state layout number object. ForSome (F.told folder.new).files (IsDoomed state layout number object gone from)))) }
-    ensures stops { ForSome (F.told folder.old).files (λ from. ForEachOpenAt node entry from (λ state layout number object. Passes (F.told folder.old) (F.told folder.new) (FindsEither state (doomed number state (Some object))))) }
+    ensures doomed { IfOk result (λ gone. ForTold (F.told folder.old) (ForEachOpenAt node entry) (DoomedBy gone (F.told folder.new))) }
+    ensures stops { ForTold (F.told folder.old) (ForEachOpenAt node entry) (DoomingBy (F.told folder.old) (F.told folder.new)) }
     ensures is_open { ForSome (F.told folder.new).files (IsOpen files.now) }
     ensures damaged { IfDamaged result (IsFailedCheck files.now (F.told folder.new)) }
-    ensures untold { ForSome (F.told folder.old).files (λ from. ForEachOpenAt node entry from (λ state layout number object. IfDamaged result (λ _. (F.told folder.old).files ≡ None))) }
+    ensures untold { ForTold (F.told folder.old) (ForEachOpenAt node entry) (UndamagedAt result (F.told folder.old)) }
     ensures writes { MayWrite F.told F.faults folder.old folder.new (IfDevice result) }
 {
     let named = read_name(folder, files, entry, name)?;
@@ -130,14 +131,14 @@ pub fn doom_target<F: Folder>(
     requires kind_before { IfSome target.now.found.before (λ before. kind_of before ≡ blocks_256) }
     requires stands_before { IfSome target.now.found.before (λ before. IsTrue (stands_among files.now before)) }
     requires is_open { ForSome (F.told folder.old).files (IsOpen files.now) }
-    ensures doomed { IfOk result (λ gone. ForSome (F.told folder.old).files (λ from. ForEachWithKey is_held key.now target.now from (λ state layout number object. ForSome (F.told folder.new).files (IsDoomed state layout number object gone from)))) }
+    ensures doomed { IfOk result (λ gone. ForTold (F.told folder.old) (ForEachWithKey is_held key.now target.now) (DoomedBy gone (F.told folder.new))) }
 
     // At each word the old durable contents are recovered, or those with the object doomed.
-    ensures stops { ForSome (F.told folder.old).files (λ from. ForEachWithKey is_held key.now target.now from (λ state layout number object. Passes (F.told folder.old) (F.told folder.new) (FindsEither state (doomed number state (Some object))))) }
+    ensures stops { ForTold (F.told folder.old) (ForEachWithKey is_held key.now target.now) (DoomingBy (F.told folder.old) (F.told folder.new)) }
 
     ensures is_open { ForSome (F.told folder.new).files (IsOpen files.now) }
     ensures damaged { IfDamaged result (IsFailedCheck files.now (F.told folder.new)) }
-    ensures untold { ForSome (F.told folder.old).files (λ from. ForEachWithKey is_held key.now target.now from (λ state layout number object. IfDamaged result (λ _. (F.told folder.old).files ≡ None))) }
+    ensures untold { ForTold (F.told folder.old) (ForEachWithKey is_held key.now target.now) (UndamagedAt result (F.told folder.old)) }
     ensures writes { MayWrite F.told F.faults folder.old folder.new (IfDevice result) }
 {
     if has_index(target.kind) {
@@ -168,11 +169,11 @@ fn doom_without_index<F: Folder>(
     requires kind_before { IfSome target.now.found.before (λ before. kind_of before ≡ blocks_256) }
     requires stands_before { IfSome target.now.found.before (λ before. IsTrue (stands_among files.now before)) }
     requires is_open { ForSome (F.told folder.old).files (IsOpen files.now) }
-    ensures doomed { IfOk result (λ gone. ForSome (F.told folder.old).files (λ from. ForEachDoomTarget is_held target.now from (λ state layout number object. ForSome (F.told folder.new).files (IsDoomed state layout number object gone from)))) }
-    ensures stops { ForSome (F.told folder.old).files (λ from. ForEachDoomTarget is_held target.now from (λ state layout number object. Passes (F.told folder.old) (F.told folder.new) (FindsEither state (doomed number state (Some object))))) }
+    ensures doomed { IfOk result (λ gone. ForTold (F.told folder.old) (ForEachDoomTarget is_held target.now) (DoomedBy gone (F.told folder.new))) }
+    ensures stops { ForTold (F.told folder.old) (ForEachDoomTarget is_held target.now) (DoomingBy (F.told folder.old) (F.told folder.new)) }
     ensures is_open { ForSome (F.told folder.new).files (IsOpen files.now) }
     ensures damaged { IfDamaged result (IsFailedCheck files.now (F.told folder.new)) }
-    ensures untold { ForSome (F.told folder.old).files (λ from. ForEachDoomTarget is_held target.now from (λ state layout number object. IfDamaged result (λ _. (F.told folder.old).files ≡ None))) }
+    ensures untold { ForTold (F.told folder.old) (ForEachDoomTarget is_held target.now) (UndamagedAt result (F.told folder.old)) }
     ensures writes { MayWrite F.told F.faults folder.old folder.new (IfDevice result) }
 {
     if is_held {
@@ -203,11 +204,11 @@ fn doom_with_index<F: Folder>(
     requires kind_before { IfSome target.now.found.before (λ before. kind_of before ≡ blocks_256) }
     requires stands_before { IfSome target.now.found.before (λ before. IsTrue (stands_among files.now before)) }
     requires is_open { ForSome (F.told folder.old).files (IsOpen files.now) }
-    ensures doomed { IfOk result (λ gone. ForSome (F.told folder.old).files (λ from. ForEachWithKey is_held key.now target.now from (λ state layout number object. ForSome (F.told folder.new).files (IsDoomed state layout number object gone from)))) }
-    ensures stops { ForSome (F.told folder.old).files (λ from. ForEachWithKey is_held key.now target.now from (λ state layout number object. Passes (F.told folder.old) (F.told folder.new) (FindsEither state (doomed number state (Some object))))) }
+    ensures doomed { IfOk result (λ gone. ForTold (F.told folder.old) (ForEachWithKey is_held key.now target.now) (DoomedBy gone (F.told folder.new))) }
+    ensures stops { ForTold (F.told folder.old) (ForEachWithKey is_held key.now target.now) (DoomingBy (F.told folder.old) (F.told folder.new)) }
     ensures is_open { ForSome (F.told folder.new).files (IsOpen files.now) }
     ensures damaged { IfDamaged result (IsFailedCheck files.now (F.told folder.new)) }
-    ensures untold { ForSome (F.told folder.old).files (λ from. ForEachWithKey is_held key.now target.now from (λ state layout number object. IfDamaged result (λ _. (F.told folder.old).files ≡ None))) }
+    ensures untold { ForTold (F.told folder.old) (ForEachWithKey is_held key.now target.now) (UndamagedAt result (F.told folder.old)) }
     ensures writes { MayWrite F.told F.faults folder.old folder.new (IfDevice result) }
 {
     if is_held {
@@ -250,7 +251,7 @@ fn remove_with_index<F: Folder>(
     ensures stops { ForSome (F.told folder.old).files (λ from. ForEachParent key.now node found.now.entry found.now.before from (λ state layout unlinked number object. Passes (F.told folder.old) (F.told folder.new) (FindsEither state (doomed number state (Some object))))) }
     ensures is_open { ForSome (F.told folder.new).files (IsOpen files.now) }
     ensures damaged { IfDamaged result (IsFailedCheck files.now (F.told folder.new)) }
-    ensures untold { ForSome (F.told folder.old).files (λ from. ForEachParent key.now node found.now.entry found.now.before from (λ state layout unlinked number object. IfDamaged result (λ _. (F.told folder.old).files ≡ None))) }
+    ensures untold { ForSome (F.told folder.old).files (λ from. ForEachParent key.now node found.now.entry found.now.before from (λ state layout unlinked number object. OpaqueIfDamaged result (F.told folder.old))) }
     ensures writes { MayWrite F.told F.faults folder.old folder.new (IfDevice result) }
 {
     let owned = read_owned(folder, files, found.entry)?;

@@ -1,19 +1,18 @@
 // Eviction units are removed until a goal is met.
-ghost use Rattle.std.specs.Prelude.{◌≡◌, ◌+◌, [], ◌∷◌, IfOk, IsTrue, None, OnOk, true};
+ghost use Rattle.std.specs.Prelude.{◌≡◌, ◌+◌, [], ◌∷◌, IfOk, IsTrue, OnOk, true};
 ghost use Rattle.std.specs.Option.{ForSome};
 ghost use Rattle.spec_image.specs.Told.{Passes, MayWrite};
 ghost use Rattle.blk_io.specs.Faults.{IfDamaged, IfDevice};
-ghost use Rattle.blk_io.specs.Streams.{Appends, GoesOn};
-ghost use Rattle.blk_model.specs.Room.{evicted_until, without};
-ghost use Rattle.blk_script.specs.Reply.{evicted_text};
+ghost use Rattle.blk_io.specs.Streams.{GoesOn};
+ghost use Rattle.blk_model.specs.Room.{without};
 ghost use Rattle.blk_disk.specs.Open.{IsOpen};
 ghost use Rattle.blk_disk.specs.Tables.{is_node_among, is_record_among};
 ghost use Rattle.blk_object.specs.FailedChecks.{IsFailedCheck};
 ghost use Rattle.blk_object.specs.RemovingObjects.{FindsEither};
-ghost use Rattle.blk_cache.specs.CacheKeeping.{HoldsState};
-ghost use Rattle.blk_cache.specs.Covering.{ForCovered, KeepsCovered};
-ghost use Rattle.blk_cache.specs.Evicting.{ForEachThatMayGo, IsEvicting, KeepsInPlaces, KeepsThatMayGo, OnlyItemsChange, count_of_groups, is_met};
-ghost use Rattle.blk_evict.specs.RoomPrinting.{FailsWhereItRose, PrintsUnlessFailed};
+ghost use Rattle.blk_cache.specs.Covering.{KeepsCovered};
+ghost use Rattle.blk_cache.specs.Evicting.{BegunBy, EvictedBy, EvictingBy, ForEachThatMayGo, ForGoal, ForUnit, KeepsInPlaces, KeepsThatMayGo, OnlyItemsChange, PrintedBy, count_of_groups};
+ghost use Rattle.blk_cache.specs.CommandClauses.{UndamagedWhere};
+ghost use Rattle.blk_evict.specs.RoomPrinting.{FailsWhereItRose};
 
 use crate::cache::Cache;
 use crate::covered::Covered;
@@ -38,13 +37,13 @@ impl Cache {
         requires is_open { ForSome (F.told folder.old).files (IsOpen self.old.files) }
 
         // Each state that was kept is kept without the eviction units that go, and their items are counted and printed.
-        ensures evicted { OnOk result (ForCovered self.old parts.now (F.told folder.old) (λ state covered. ForSome (F.told folder.new).files (HoldsState self.new (without (evicted_until (is_met goal.now) state covered) state)))) }
-        ensures counts { IfOk result (λ count. ForCovered self.old parts.now (F.told folder.old) (λ state covered. count ≡ count_of_groups (evicted_until (is_met goal.now) state covered))) }
-        ensures prints { OnOk result (ForCovered self.old parts.now (F.told folder.old) (λ state covered. PrintsUnlessFailed failed.old failed.new (K.written out.old) (K.written out.new) (evicted_text (evicted_until (is_met goal.now) state covered)))) }
+        ensures evicted { OnOk result (ForGoal self.old parts.now (F.told folder.old) goal.now (EvictedBy self.new (F.told folder.new))) }
+        ensures counts { IfOk result (λ count. ForGoal self.old parts.now (F.told folder.old) goal.now (λ state groups. count ≡ count_of_groups groups)) }
+        ensures prints { OnOk result (ForGoal self.old parts.now (F.told folder.old) goal.now (PrintedBy failed.old failed.new K.written out.old out.new)) }
 
         // At each word a prefix of the eviction units that go is out; on any answer a prefix of their text was printed.
-        ensures stops { ForCovered self.old parts.now (F.told folder.old) (λ state covered. Passes (F.told folder.old) (F.told folder.new) (IsEvicting (evicted_until (is_met goal.now) state covered) state)) }
-        ensures front { ForCovered self.old parts.now (F.told folder.old) (λ state covered. Appends (K.written out.old) (K.written out.new) (evicted_text (evicted_until (is_met goal.now) state covered))) }
+        ensures stops { ForGoal self.old parts.now (F.told folder.old) goal.now (EvictingBy (F.told folder.old) (F.told folder.new)) }
+        ensures front { ForGoal self.old parts.now (F.told folder.old) goal.now (BegunBy K.written out.old out.new) }
 
         // Where the output failed before nothing is printed.
         ensures quiet { failed.old ≡ true → (failed.new ≡ true) × (K.written out.new ≡ K.written out.old) }
@@ -56,7 +55,7 @@ impl Cache {
         ensures damaged { IfDamaged result (IsFailedCheck self.new.files (F.told folder.new)) }
 
         // An observable folder reports no corruption where the cache keeps a state with these parts in range.
-        ensures untold { ForSome (F.told folder.old).files (KeepsCovered self.old parts.now) → IfDamaged result (λ _. (F.told folder.old).files ≡ None) }
+        ensures untold { UndamagedWhere result (F.told folder.old) (KeepsCovered self.old parts.now) }
         ensures writes { MayWrite F.told F.faults folder.old folder.new (IfDevice result) }
         ensures sink_later { GoesOn K.is K.faults out.old out.new }
     {
@@ -75,17 +74,17 @@ impl Cache {
         parts: &Covered,
     ) -> Result<(), Fault>
         requires is_open { ForSome (F.told folder.old).files (IsOpen self.old.files) }
-        ensures evicted { OnOk result (ForCovered self.old parts.now (F.told folder.old) (λ state covered. ForSome (F.told folder.new).files (HoldsState self.new (without (evicted_until (is_met goal.now) state covered) state)))) }
-        ensures counts { OnOk result (ForCovered self.old parts.now (F.told folder.old) (λ state covered. self.old.items ≡ self.new.items + count_of_groups (evicted_until (is_met goal.now) state covered))) }
-        ensures prints { OnOk result (ForCovered self.old parts.now (F.told folder.old) (λ state covered. PrintsUnlessFailed failed.old failed.new (K.written out.old) (K.written out.new) (evicted_text (evicted_until (is_met goal.now) state covered)))) }
-        ensures stops { ForCovered self.old parts.now (F.told folder.old) (λ state covered. Passes (F.told folder.old) (F.told folder.new) (IsEvicting (evicted_until (is_met goal.now) state covered) state)) }
-        ensures front { ForCovered self.old parts.now (F.told folder.old) (λ state covered. Appends (K.written out.old) (K.written out.new) (evicted_text (evicted_until (is_met goal.now) state covered))) }
+        ensures evicted { OnOk result (ForGoal self.old parts.now (F.told folder.old) goal.now (EvictedBy self.new (F.told folder.new))) }
+        ensures counts { OnOk result (ForGoal self.old parts.now (F.told folder.old) goal.now (λ state groups. self.old.items ≡ self.new.items + count_of_groups groups)) }
+        ensures prints { OnOk result (ForGoal self.old parts.now (F.told folder.old) goal.now (PrintedBy failed.old failed.new K.written out.old out.new)) }
+        ensures stops { ForGoal self.old parts.now (F.told folder.old) goal.now (EvictingBy (F.told folder.old) (F.told folder.new)) }
+        ensures front { ForGoal self.old parts.now (F.told folder.old) goal.now (BegunBy K.written out.old out.new) }
         ensures quiet { failed.old ≡ true → (failed.new ≡ true) × (K.written out.new ≡ K.written out.old) }
         ensures fails { FailsWhereItRose failed.old failed.new (K.faults out.old) (K.faults out.new) }
         ensures others { OnlyItemsChange self.old self.new }
         ensures is_open { ForSome (F.told folder.new).files (IsOpen self.new.files) }
         ensures damaged { IfDamaged result (IsFailedCheck self.new.files (F.told folder.new)) }
-        ensures untold { ForSome (F.told folder.old).files (KeepsCovered self.old parts.now) → IfDamaged result (λ _. (F.told folder.old).files ≡ None) }
+        ensures untold { UndamagedWhere result (F.told folder.old) (KeepsCovered self.old parts.now) }
         ensures writes { MayWrite F.told F.faults folder.old folder.new (IfDevice result) }
         ensures sink_later { GoesOn K.is K.faults out.old out.new }
     {
@@ -118,15 +117,15 @@ impl Cache {
 
         // Where it may be evicted in a state that was kept, that is kept without its eviction unit.
         ensures evicted { OnOk result (ForSome (F.told folder.old).files (λ from. ForEachThatMayGo self.old found.now from (λ state layout group. ForSome (F.told folder.new).files (KeepsInPlaces self.new (without (group ∷ []) state) layout)))) }
-        ensures prints { OnOk result (ForSome (F.told folder.old).files (λ from. ForEachThatMayGo self.old found.now from (λ state layout group. PrintsUnlessFailed failed.old failed.new (K.written out.old) (K.written out.new) (evicted_text (group ∷ []))))) }
+        ensures prints { OnOk result (ForUnit self.old found.now (F.told folder.old) (PrintedBy failed.old failed.new K.written out.old out.new)) }
         ensures stops { ForSome (F.told folder.old).files (λ from. ForEachThatMayGo self.old found.now from (λ state layout group. Passes (F.told folder.old) (F.told folder.new) (FindsEither state (without (group ∷ []) state)))) }
-        ensures front { ForSome (F.told folder.old).files (λ from. ForEachThatMayGo self.old found.now from (λ state layout group. Appends (K.written out.old) (K.written out.new) (evicted_text (group ∷ [])))) }
+        ensures front { ForUnit self.old found.now (F.told folder.old) (BegunBy K.written out.old out.new) }
         ensures quiet { failed.old ≡ true → (failed.new ≡ true) × (K.written out.new ≡ K.written out.old) }
         ensures fails { FailsWhereItRose failed.old failed.new (K.faults out.old) (K.faults out.new) }
         ensures others { OnlyItemsChange self.old self.new }
         ensures is_open { ForSome (F.told folder.new).files (IsOpen self.new.files) }
         ensures damaged { IfDamaged result (IsFailedCheck self.new.files (F.told folder.new)) }
-        ensures untold { ForSome (F.told folder.old).files (KeepsThatMayGo self.old found.now) → IfDamaged result (λ _. (F.told folder.old).files ≡ None) }
+        ensures untold { UndamagedWhere result (F.told folder.old) (KeepsThatMayGo self.old found.now) }
         ensures writes { MayWrite F.told F.faults folder.old folder.new (IfDevice result) }
         ensures sink_later { GoesOn K.is K.faults out.old out.new }
     {

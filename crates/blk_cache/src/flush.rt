@@ -1,15 +1,15 @@
 // The command Flush.
-ghost use Rattle.std.specs.Prelude.{◌≡◌, ℕ, IfOk, IfSome, None, Ok, OnErr};
+ghost use Rattle.std.specs.Prelude.{◌≡◌, ℕ, IfOk, IfSome, Ok};
 ghost use Rattle.std.specs.Option.{ForSome};
 ghost use Rattle.spec_image.specs.Told.{Stays, MayWrite};
 ghost use Rattle.blk_io.specs.Faults.{IfDamaged, IfDevice};
 ghost use Rattle.blk_model.specs.Request.{to_flush};
 ghost use Rattle.blk_model.specs.declared.Answer.TheVariants as answer;
 ghost use Rattle.blk_disk.specs.Open.{IsOpen};
-ghost use Rattle.law_state.specs.Commands.{Does, ForKept, MayStopAtEach};
+ghost use Rattle.law_state.specs.Commands.{ForKept};
 ghost use Rattle.blk_object.specs.FailedChecks.{IsFailedCheck};
 ghost use Rattle.blk_cache.specs.CacheKeeping.{HoldsState};
-ghost use Rattle.blk_cache.specs.CommandClauses.{FlushesClean, IsRefused, KeepsAny, SparesRefused};
+ghost use Rattle.blk_cache.specs.CommandClauses.{DoneBy, FlushesClean, ForCall, IsRefused, KeepsAny, SparedBy, StopsBy, UndamagedWhere};
 ghost use Rattle.blk_cache.specs.Dooming.{doom_refusal};
 
 use crate::cache::Cache;
@@ -25,8 +25,8 @@ impl Cache {
     /// that it can be dropped.
     pub(crate) fn flush<F: Folder>(&mut self, folder: &mut F, handle: u16) -> Result<Answer, Fault>
         requires is_open { ForSome (F.told folder.old).files (IsOpen self.old.files) }
-        ensures does { (moment : ℕ) → IfOk result (λ answer. Does (HoldsState self.old) (HoldsState self.new) (F.told folder.old) (F.told folder.new) moment (to_flush handle) answer) }
-        ensures stops { (moment : ℕ) → MayStopAtEach (HoldsState self.old) (F.told folder.old) (F.told folder.new) moment (to_flush handle) }
+        ensures does { (moment : ℕ) → ForCall self.old (F.told folder.old) moment (to_flush handle) (DoneBy self.new (F.told folder.new) result) }
+        ensures stops { (moment : ℕ) → ForCall self.old (F.told folder.old) moment (to_flush handle) (StopsBy (F.told folder.new)) }
 
         // A refusal that the handles alone decide is given on every folder, and a refusal does nothing.
         ensures refuses { IfSome (doom_refusal self.old.handles handle) (λ why. result ≡ Ok (answer.Refused why)) }
@@ -36,7 +36,7 @@ impl Cache {
         // A Flush of a clean object does nothing either.
         ensures idle { ForKept (HoldsState self.old) (F.told folder.old) (λ state. FlushesClean state (to_flush handle) → Stays (F.told folder.old) (F.told folder.new)) }
 
-        ensures spares { (moment : ℕ) → OnErr result (SparesRefused (HoldsState self.old) (F.told folder.old) (F.told folder.new) moment (to_flush handle)) }
+        ensures spares { (moment : ℕ) → ForCall self.old (F.told folder.old) moment (to_flush handle) (SparedBy (F.told folder.new) result) }
         ensures is_open { ForSome (F.told folder.new).files (IsOpen self.new.files) }
         ensures notes { self.new.notes ≡ self.old.notes }
         ensures mark { self.new.mark ≡ self.old.mark }
@@ -45,7 +45,7 @@ impl Cache {
         ensures damaged { IfDamaged result (IsFailedCheck self.new.files (F.told folder.new)) }
 
         // An observable folder reports no corruption where the cache keeps a state.
-        ensures untold { ForSome (F.told folder.old).files (KeepsAny self.old) → IfDamaged result (λ _. (F.told folder.old).files ≡ None) }
+        ensures untold { UndamagedWhere result (F.told folder.old) (KeepsAny self.old) }
         ensures writes { MayWrite F.told F.faults folder.old folder.new (IfDevice result) }
     {
         let Some(object) = self.handles.object(handle) else {

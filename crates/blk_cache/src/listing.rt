@@ -1,7 +1,6 @@
 // The command List, and the rows that it shows.
-ghost use Rattle.std.specs.Prelude.{◌≡◌, ℕ, IfOk, None, OnOk};
+ghost use Rattle.std.specs.Prelude.{ℕ, IfOk, OnOk};
 ghost use Rattle.std.specs.List.{flat_map};
-ghost use Rattle.std.specs.Option.{ForSome};
 ghost use Rattle.spec_image.specs.Told.{ReadsOnly};
 ghost use Rattle.blk_io.specs.Faults.{IfDamaged, IfDevice, IsShort};
 ghost use Rattle.blk_io.specs.Streams.{GoesOn};
@@ -9,12 +8,13 @@ ghost use Rattle.blk_io.specs.declared.folder.FileId.TheVariants as names;
 ghost use Rattle.blk_model.specs.Holding.{rows};
 ghost use Rattle.blk_model.specs.Request.{to_list};
 ghost use Rattle.blk_script.specs.Reply.{row_line};
-ghost use Rattle.law_state.specs.Commands.{Does, ForKept};
+ghost use Rattle.law_state.specs.Commands.{ForKept};
 ghost use Rattle.blk_object.specs.FailedChecks.{IsFailedCheck};
 ghost use Rattle.blk_cache.specs.CacheKeeping.{HoldsState};
-ghost use Rattle.blk_cache.specs.CommandClauses.{IsRefused, KeepsAny};
+ghost use Rattle.blk_cache.specs.CommandClauses.{DoneBy, ForCall, IsRefused, KeepsAny, UndamagedWhere};
 ghost use Rattle.blk_cache.specs.Listing.{OnlyRoomChanges};
-ghost use Rattle.blk_evict.specs.RoomPrinting.{FailsWhereItRose, PrintsUnlessFailed, PrintsInPart};
+ghost use Rattle.blk_cache.specs.Stepping.{Puts, PutsPart};
+ghost use Rattle.blk_evict.specs.RoomPrinting.{FailsWhereItRose};
 
 use crate::cache::Cache;
 use blk_index::word;
@@ -26,14 +26,14 @@ use blk_record::IndexHead;
 impl Cache {
     /// How many items the LRU list has, by one folder call. Nothing is written, and nothing is refused.
     pub(crate) fn list<F: Folder>(&self, folder: &mut F) -> Result<Answer, Fault>
-        ensures does { (moment : ℕ) → IfOk result (λ answer. Does (HoldsState self.now) (HoldsState self.now) (F.told folder.old) (F.told folder.new) moment to_list answer) }
+        ensures does { (moment : ℕ) → ForCall self.now (F.told folder.old) moment to_list (DoneBy self.now (F.told folder.new) result) }
         ensures reads { ReadsOnly F.told F.faults folder.old folder.new (IfDevice result) }
         ensures passes { IfOk result (λ given. IsRefused given → ⊥) }
 
         // Too few bytes, which an observable folder doesn't give where the cache keeps a state.
         ensures damaged { IfDamaged result (IsShort (F.told folder.old) names.Index IndexHead.SIZES 4) }
         ensures cause { IfDamaged result (IsFailedCheck self.now.files (F.told folder.new)) }
-        ensures untold { ForSome (F.told folder.old).files (KeepsAny self.now) → IfDamaged result (λ _. (F.told folder.old).files ≡ None) }
+        ensures untold { UndamagedWhere result (F.told folder.old) (KeepsAny self.now) }
     {
         let count = word(folder, IndexHead::SIZES)?;
         Ok(Answer::Listed(u64::from(count)))
@@ -50,13 +50,13 @@ impl Cache {
         out: &mut K,
         failed: &mut bool,
     ) -> Result<(), Fault>
-        ensures printed { OnOk result (ForKept (HoldsState self.old) (F.told folder.old) (λ state. PrintsUnlessFailed failed.old failed.new (K.written out.old) (K.written out.new) (flat_map row_line (rows state)))) }
-        ensures part { ForKept (HoldsState self.old) (F.told folder.old) (λ state. PrintsInPart failed.old (K.written out.old) (K.written out.new) (flat_map row_line (rows state))) }
+        ensures printed { OnOk result (ForKept (HoldsState self.old) (F.told folder.old) (λ state. Puts failed.old failed.new K.written out.old out.new (flat_map row_line (rows state)))) }
+        ensures part { ForKept (HoldsState self.old) (F.told folder.old) (λ state. PutsPart failed.old K.written out.old out.new (flat_map row_line (rows state))) }
         ensures failed { FailsWhereItRose failed.old failed.new (K.faults out.old) (K.faults out.new) }
         ensures others { OnlyRoomChanges self.old self.new }
         ensures reads { ReadsOnly F.told F.faults folder.old folder.new (IfDevice result) }
         ensures damaged { IfDamaged result (IsFailedCheck self.new.files (F.told folder.new)) }
-        ensures untold { ForSome (F.told folder.old).files (KeepsAny self.old) → IfDamaged result (λ _. (F.told folder.old).files ≡ None) }
+        ensures untold { UndamagedWhere result (F.told folder.old) (KeepsAny self.old) }
         ensures later_out { GoesOn K.is K.faults out.old out.new }
     {
         print_items(folder, &self.files, &mut self.name, out, failed)

@@ -2,22 +2,21 @@
 ghost use Rattle.std.specs.Prelude.{◌≡◌, ◌≤◌, ◌&&◌, ◌||◌, ◌==◌, [], IfOk, None, OnErr, OnOk, false, true};
 ghost use Rattle.spec_image.specs.Image.{Image};
 ghost use Rattle.std.specs.Option.{ForSome};
-ghost use Rattle.spec_image.specs.Told.{Passes, Rises, Stays, MayWrite};
+ghost use Rattle.spec_image.specs.Told.{Rises, Stays, MayWrite};
 ghost use Rattle.blk_io.specs.Faults.{IfDamaged, IfDevice};
-ghost use Rattle.blk_io.specs.Streams.{Appends, GoesOn};
-ghost use Rattle.blk_model.specs.Refusals.{evicted_for, is_full as is_full_room};
-ghost use Rattle.blk_model.specs.Room.{fits, room, without};
+ghost use Rattle.blk_io.specs.Streams.{GoesOn};
+ghost use Rattle.blk_model.specs.Refusals.{is_full as is_full_room};
+ghost use Rattle.blk_model.specs.Room.{fits, room};
 ghost use Rattle.blk_model.specs.State.{State};
-ghost use Rattle.blk_script.specs.Reply.{evicted_text};
 ghost use Rattle.blk_disk.specs.Open.{IsOpen};
 ghost use Rattle.law_state.specs.Commands.{ForKept};
 ghost use Rattle.blk_object.specs.FailedChecks.{IsFailedCheck};
 ghost use Rattle.blk_cache.specs.CacheKeeping.{HoldsState};
-ghost use Rattle.blk_cache.specs.CommandClauses.{KeepsAny};
+ghost use Rattle.blk_cache.specs.CommandClauses.{KeepsAny, UndamagedWhere};
 ghost use Rattle.blk_cache.specs.Covering.{ForCovered, KeepsCovered};
-ghost use Rattle.blk_cache.specs.Evicting.{IsEvicting, OnlyItemsChange};
-ghost use Rattle.blk_cache.specs.MakingRoom.{ForRoom, says_full};
-ghost use Rattle.blk_evict.specs.RoomPrinting.{FailsWhereItRose, PrintsUnlessFailed};
+ghost use Rattle.blk_cache.specs.Evicting.{BegunBy, EvictedBy, EvictingBy, OnlyItemsChange, PrintedBy};
+ghost use Rattle.blk_cache.specs.MakingRoom.{ForMaking, ForMakingBeside, ForRoom, says_full};
+ghost use Rattle.blk_evict.specs.RoomPrinting.{FailsWhereItRose};
 
 use crate::cache::Cache;
 use crate::covered::Covered;
@@ -56,12 +55,12 @@ impl Cache {
         ensures unprinted { IfOk result (λ answer. says_full answer ≡ true → K.written out.new ≡ K.written out.old) }
 
         // Each state that was kept is kept without what is evicted for it, and that is printed.
-        ensures made { OnOk result (ForKept (HoldsState self.old) (F.told folder.old) (λ state. ForSome (F.told folder.new).files (HoldsState self.new (without (evicted_for (room state [] bytes items)) state)))) }
-        ensures prints { OnOk result (ForKept (HoldsState self.old) (F.told folder.old) (λ state. PrintsUnlessFailed failed.old failed.new (K.written out.old) (K.written out.new) (evicted_text (evicted_for (room state [] bytes items))))) }
+        ensures made { OnOk result (ForMaking self.old (F.told folder.old) bytes items (EvictedBy self.new (F.told folder.new))) }
+        ensures prints { OnOk result (ForMaking self.old (F.told folder.old) bytes items (PrintedBy failed.old failed.new K.written out.old out.new)) }
 
         // At each word a prefix of what is evicted is out; on any answer a prefix of its text was printed.
-        ensures stops { ForKept (HoldsState self.old) (F.told folder.old) (λ state. Passes (F.told folder.old) (F.told folder.new) (IsEvicting (evicted_for (room state [] bytes items)) state)) }
-        ensures front { ForKept (HoldsState self.old) (F.told folder.old) (λ state. Appends (K.written out.old) (K.written out.new) (evicted_text (evicted_for (room state [] bytes items)))) }
+        ensures stops { ForMaking self.old (F.told folder.old) bytes items (EvictingBy (F.told folder.old) (F.told folder.new)) }
+        ensures front { ForMaking self.old (F.told folder.old) bytes items (BegunBy K.written out.old out.new) }
 
         // Where the output failed before nothing is printed.
         ensures quiet { failed.old ≡ true → (failed.new ≡ true) × (K.written out.new ≡ K.written out.old) }
@@ -73,7 +72,7 @@ impl Cache {
         ensures damaged { IfDamaged result (IsFailedCheck self.new.files (F.told folder.new)) }
 
         // An observable folder reports no corruption where the cache keeps a state.
-        ensures untold { ForSome (F.told folder.old).files (KeepsAny self.old) → IfDamaged result (λ _. (F.told folder.old).files ≡ None) }
+        ensures untold { UndamagedWhere result (F.told folder.old) (KeepsAny self.old) }
         ensures silent { (F.told folder.old).files ≡ None → (F.told folder.new).files ≡ None }
         ensures later { F.faults folder.old ≤ F.faults folder.new }
         ensures sink_later { GoesOn K.is K.faults out.old out.new }
@@ -106,12 +105,12 @@ impl Cache {
         ensures unprinted { IfOk result (λ answer. says_full answer ≡ true → K.written out.new ≡ K.written out.old) }
 
         // Each state that was kept is kept without what is evicted for it, and that is printed.
-        ensures made { OnOk result (ForCovered self.old parts.now (F.told folder.old) (λ state covered. ForSome (F.told folder.new).files (HoldsState self.new (without (evicted_for (room state covered bytes items)) state)))) }
-        ensures prints { OnOk result (ForCovered self.old parts.now (F.told folder.old) (λ state covered. PrintsUnlessFailed failed.old failed.new (K.written out.old) (K.written out.new) (evicted_text (evicted_for (room state covered bytes items))))) }
+        ensures made { OnOk result (ForMakingBeside self.old parts.now (F.told folder.old) bytes items (EvictedBy self.new (F.told folder.new))) }
+        ensures prints { OnOk result (ForMakingBeside self.old parts.now (F.told folder.old) bytes items (PrintedBy failed.old failed.new K.written out.old out.new)) }
 
         // At each word a prefix of what is evicted is out; on any answer a prefix of its text was printed.
-        ensures stops { ForCovered self.old parts.now (F.told folder.old) (λ state covered. Passes (F.told folder.old) (F.told folder.new) (IsEvicting (evicted_for (room state covered bytes items)) state)) }
-        ensures front { ForCovered self.old parts.now (F.told folder.old) (λ state covered. Appends (K.written out.old) (K.written out.new) (evicted_text (evicted_for (room state covered bytes items)))) }
+        ensures stops { ForMakingBeside self.old parts.now (F.told folder.old) bytes items (EvictingBy (F.told folder.old) (F.told folder.new)) }
+        ensures front { ForMakingBeside self.old parts.now (F.told folder.old) bytes items (BegunBy K.written out.old out.new) }
 
         // Where the output failed before nothing is printed.
         ensures quiet { failed.old ≡ true → (failed.new ≡ true) × (K.written out.new ≡ K.written out.old) }
@@ -123,7 +122,7 @@ impl Cache {
         ensures damaged { IfDamaged result (IsFailedCheck self.new.files (F.told folder.new)) }
 
         // An observable folder reports no corruption where the cache keeps a state with these parts in range.
-        ensures untold { ForSome (F.told folder.old).files (KeepsCovered self.old parts.now) → IfDamaged result (λ _. (F.told folder.old).files ≡ None) }
+        ensures untold { UndamagedWhere result (F.told folder.old) (KeepsCovered self.old parts.now) }
         ensures silent { (F.told folder.old).files ≡ None → (F.told folder.new).files ≡ None }
         ensures later { F.faults folder.old ≤ F.faults folder.new }
         ensures sink_later { GoesOn K.is K.faults out.old out.new }
@@ -153,12 +152,12 @@ impl Cache {
         requires is_open { ForSome (F.told folder.old).files (IsOpen self.old.files) }
 
         // Each state that was kept, and has space, is kept without what is evicted for it, and that is printed.
-        ensures evicted { OnOk result (ForRoom self.old parts.now (F.told folder.old) bytes items (λ state groups. ForSome (F.told folder.new).files (HoldsState self.new (without groups state)))) }
-        ensures prints { OnOk result (ForRoom self.old parts.now (F.told folder.old) bytes items (λ state groups. PrintsUnlessFailed failed.old failed.new (K.written out.old) (K.written out.new) (evicted_text groups))) }
+        ensures evicted { OnOk result (ForRoom self.old parts.now (F.told folder.old) bytes items (EvictedBy self.new (F.told folder.new))) }
+        ensures prints { OnOk result (ForRoom self.old parts.now (F.told folder.old) bytes items (PrintedBy failed.old failed.new K.written out.old out.new)) }
 
         // At each word a prefix of what is evicted is out; on any answer a prefix of its text was printed.
-        ensures stops { ForRoom self.old parts.now (F.told folder.old) bytes items (λ state groups. Passes (F.told folder.old) (F.told folder.new) (IsEvicting groups state)) }
-        ensures front { ForRoom self.old parts.now (F.told folder.old) bytes items (λ state groups. Appends (K.written out.old) (K.written out.new) (evicted_text groups)) }
+        ensures stops { ForRoom self.old parts.now (F.told folder.old) bytes items (EvictingBy (F.told folder.old) (F.told folder.new)) }
+        ensures front { ForRoom self.old parts.now (F.told folder.old) bytes items (BegunBy K.written out.old out.new) }
 
         // Where the output failed before nothing is printed.
         ensures quiet { failed.old ≡ true → (failed.new ≡ true) × (K.written out.new ≡ K.written out.old) }
@@ -170,7 +169,7 @@ impl Cache {
         ensures damaged { IfDamaged result (IsFailedCheck self.new.files (F.told folder.new)) }
 
         // An observable folder reports no corruption where the cache keeps a state with these parts in range.
-        ensures untold { ForSome (F.told folder.old).files (KeepsCovered self.old parts.now) → IfDamaged result (λ _. (F.told folder.old).files ≡ None) }
+        ensures untold { UndamagedWhere result (F.told folder.old) (KeepsCovered self.old parts.now) }
         ensures writes { MayWrite F.told F.faults folder.old folder.new (IfDevice result) }
         ensures sink_later { GoesOn K.is K.faults out.old out.new }
     {

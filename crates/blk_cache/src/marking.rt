@@ -1,5 +1,5 @@
 // An open object becomes dirty, or clean.
-ghost use Rattle.std.specs.Prelude.{◌≡◌, IfSome, IsSome, None, OnOk, not, true};
+ghost use Rattle.std.specs.Prelude.{◌≡◌, IfSome, IsSome, OnOk, not, true};
 ghost use Rattle.std.specs.Option.{ForSome};
 ghost use Rattle.spec_image.specs.Told.{Passes, Stays, MayWrite};
 ghost use Rattle.blk_io.specs.Faults.{IfDamaged, IfDevice};
@@ -9,7 +9,7 @@ ghost use Rattle.blk_handles.specs.Bindings.{binding_of};
 ghost use Rattle.blk_object.specs.FailedChecks.{IsFailedCheck};
 ghost use Rattle.blk_object.specs.RemovingObjects.{FindsEither};
 ghost use Rattle.blk_cache.specs.CacheKeeping.{HoldsState};
-ghost use Rattle.blk_cache.specs.CommandClauses.{KeepsAny, OnlyNamesChange};
+ghost use Rattle.blk_cache.specs.CommandClauses.{KeepsAny, OnlyNamesChange, UndamagedWhere};
 ghost use Rattle.blk_cache.specs.Marking.{ForEachNamed, dirty_word};
 
 use crate::cache::Cache;
@@ -46,7 +46,7 @@ impl Cache {
 
         // Corruption is a check that fails on what is read here; nothing is written after it. An observable folder gives none where the cache keeps a state.
         ensures damaged { IfDamaged result (IsFailedCheck self.new.files (F.told folder.new)) }
-        ensures untold { ForSome (F.told folder.old).files (KeepsAny self.old) → IfDamaged result (λ _. (F.told folder.old).files ≡ None) }
+        ensures untold { UndamagedWhere result (F.told folder.old) (KeepsAny self.old) }
         ensures writes { MayWrite F.told F.faults folder.old folder.new (IfDevice result) }
     {
         let Some(object) = self.handles.object(handle) else {

@@ -1,5 +1,5 @@
 // The command Open.
-ghost use Rattle.std.specs.Prelude.{◌≡◌, ◌<◌, ◌^◌, IfOk, IfSome, IsTrue, None, Ok, Some, false, slice_set, OnErr};
+ghost use Rattle.std.specs.Prelude.{◌≡◌, ◌<◌, ◌^◌, IfOk, IfSome, IsTrue, None, Ok, Some, false, slice_set};
 ghost use Rattle.std.specs.Option.{ForSome};
 ghost use Rattle.spec_image.specs.Told.{Stays, MayWrite};
 ghost use Rattle.blk_io.specs.Faults.{IfDamaged, IfDevice};
@@ -9,10 +9,8 @@ ghost use Rattle.blk_model.specs.declared.Answer.TheVariants as answer;
 ghost use Rattle.blk_disk.specs.Open.{IsOpen};
 ghost use Rattle.blk_disk.specs.Tables.{is_node_among, is_record_among};
 ghost use Rattle.blk_handles.specs.Bindings.{AreShared, binding_for, binding_of, is_open, open_with};
-ghost use Rattle.law_state.specs.Commands.{Does, MayStopAtEach};
 ghost use Rattle.blk_object.specs.FailedChecks.{IsFailedCheck};
-ghost use Rattle.blk_cache.specs.CacheKeeping.{HoldsState};
-ghost use Rattle.blk_cache.specs.CommandClauses.{IsOpenDamage, IsRefused, KeepsAny, OnlyNamesChange, charged_with, open_refusal, SparesRefused};
+ghost use Rattle.blk_cache.specs.CommandClauses.{DoneBy, ForCall, IsOpenDamage, IsRefused, KeepsAny, OnlyNamesChange, SparedBy, StopsBy, UndamagedWhere, charged_with, open_refusal};
 
 use crate::cache::Cache;
 use blk_addr::Addr;
@@ -37,15 +35,15 @@ impl Cache {
         moment: u64,
     ) -> Result<Answer, Fault>
         requires is_open { ForSome (F.told folder.old).files (IsOpen self.old.files) }
-        ensures does { IfOk result (λ answer. Does (HoldsState self.old) (HoldsState self.new) (F.told folder.old) (F.told folder.new) moment (to_open handle key.now) answer) }
-        ensures stops { MayStopAtEach (HoldsState self.old) (F.told folder.old) (F.told folder.new) moment (to_open handle key.now) }
+        ensures does { ForCall self.old (F.told folder.old) moment (to_open handle key.now) (DoneBy self.new (F.told folder.new) result) }
+        ensures stops { ForCall self.old (F.told folder.old) moment (to_open handle key.now) (StopsBy (F.told folder.new)) }
 
         // What the names and the key alone decide is refused on every folder, and a refusal does nothing.
         ensures refuses { IfSome (open_refusal self.old.handles handle key.now) (λ why. result ≡ Ok (answer.Refused why)) }
         ensures quiet { IfOk result (λ answer. IsRefused answer → Stays (F.told folder.old) (F.told folder.new)) }
         ensures unchanged { IfOk result (λ answer. IsRefused answer → self.new ≡ self.old) }
 
-        ensures spares { OnErr result (SparesRefused (HoldsState self.old) (F.told folder.old) (F.told folder.new) moment (to_open handle key.now)) }
+        ensures spares { ForCall self.old (F.told folder.old) moment (to_open handle key.now) (SparedBy (F.told folder.new) result) }
         ensures is_open { ForSome (F.told folder.new).files (IsOpen self.new.files) }
         ensures notes { self.new.notes ≡ self.old.notes }
         ensures mark { self.new.mark ≡ self.old.mark }
@@ -53,7 +51,7 @@ impl Cache {
         // An observable folder reports no corruption where the cache keeps a state.
         ensures damaged { IfDamaged result (IsOpenDamage self.old.files (F.told folder.old) (F.told folder.new) key.now) }
         ensures cause { IfDamaged result (IsFailedCheck self.new.files (F.told folder.new)) }
-        ensures untold { ForSome (F.told folder.old).files (KeepsAny self.old) → IfDamaged result (λ _. (F.told folder.old).files ≡ None) }
+        ensures untold { UndamagedWhere result (F.told folder.old) (KeepsAny self.old) }
         ensures writes { MayWrite F.told F.faults folder.old folder.new (IfDevice result) }
     {
         if let Some(why) = self.refuses_open(handle, key) {

@@ -1,19 +1,17 @@
 // A folder is opened: it is made or checked, and recovered by its scan.
 ghost use Rattle.std.specs.Prelude.{◌≡◌, IfOk, None, OnOk, Some};
 ghost use Rattle.std.specs.Option.{ForSome};
-ghost use Rattle.spec_image.specs.Image.{Index as index, byte};
 ghost use Rattle.spec_image.specs.Told.{Stays, MayWrite};
 ghost use Rattle.spec_format.specs.BlockFiles.{IsDamagedBy, IsUsable, IsWellFormed, first_damage};
-ghost use Rattle.spec_format.specs.Headers.{HasWholeIndex, IsUnfinished, create_time_of};
+ghost use Rattle.spec_format.specs.Headers.{HasWholeIndex, IsUnfinished};
 ghost use Rattle.blk_io.specs.Faults.{IfDamaged, IfDevice, damage_of};
 ghost use Rattle.blk_index.specs.Start.{IsFinished};
 ghost use Rattle.blk_disk.specs.Open.{IsOpen};
-ghost use Rattle.blk_repair.specs.Endings.{EndsOrBreaksOff, EndsWithCrashWord};
 ghost use Rattle.blk_repair.specs.Repair.{IsRepairable, NeedsOnlyWords};
-ghost use Rattle.law_recovery.specs.MendedChanges.{IsMidRepair};
 ghost use Rattle.blk_scan.specs.Scans.{StandAmong};
-ghost use Rattle.blk_cache.specs.Opened.{IsJustMade, IsOpenedAs, IsOpeningDamage};
-ghost use Rattle.blk_cache.specs.Opening.{IfOpenDamaged, IfOpenDevice, IfOpenMemory, OpensFolder, OpensOrBreaksOff, StandsOpened, WasMadeAt};
+ghost use Rattle.blk_cache.specs.Opened.{FromEach, IsJustMade, IsOpenedAs, IsOpeningDamage, MadeBy, MendedBy, MendingBy, OpenedBy};
+ghost use Rattle.blk_cache.specs.Opening.{IfOpenDamaged, IfOpenDevice, IfOpenMemory, OpensFolder, OpensOrBreaksOff, WasMadeAt};
+ghost use Rattle.blk_cache.specs.CommandClauses.{OpaqueIfDamaged, UndamagedWhere};
 
 use crate::fault::OpenFault;
 use blk_disk::BlockFiles;
@@ -65,7 +63,7 @@ fn open_new<F: Folder>(alloc: Global, folder: &mut F, moment: u64) -> Result<Ope
     ensures stops { ForSome (F.told folder.old).files (λ from. OpensOrBreaksOff from (F.told folder.old) (F.told folder.new)) }
     ensures last { OnOk result (ForSome (F.told folder.old).files (λ from. OpensFolder from (F.told folder.old) (F.told folder.new))) }
     ensures damaged { IfDamaged result (IsOpeningDamage (F.told folder.new)) }
-    ensures untold { IfDamaged result (λ _. (F.told folder.old).files ≡ None) }
+    ensures untold { OpaqueIfDamaged result (F.told folder.old) }
     ensures writes { MayWrite F.told F.faults folder.old folder.new (IfDevice result) }
 {
     make(folder, moment)?;
@@ -75,12 +73,12 @@ fn open_new<F: Folder>(alloc: Global, folder: &mut F, moment: u64) -> Result<Ope
 // Opens a folder that was just made.
 fn open_made<F: Folder>(alloc: Global, folder: &mut F) -> Result<Opened, Fault>
     requires complete { ForSome (F.told folder.old).files HasWholeIndex }
-    ensures opened { IfOk result (λ opened. ForSome (F.told folder.old).files (λ from. IsJustMade from → ForSome (F.told folder.new).files (IsOpenedAs from opened))) }
-    ensures made { OnOk result (ForSome (F.told folder.old).files (λ from. IsJustMade from → ForSome (F.told folder.new).files (WasMadeAt (create_time_of (byte from index))))) }
-    ensures stops { ForSome (F.told folder.old).files (λ from. IsJustMade from → EndsOrBreaksOff (F.told folder.old) (F.told folder.new) (IsMidRepair from) (StandsOpened from)) }
-    ensures last { OnOk result (ForSome (F.told folder.old).files (λ from. IsJustMade from → EndsWithCrashWord (F.told folder.old) (F.told folder.new) (IsMidRepair from) (StandsOpened from))) }
+    ensures opened { IfOk result (λ opened. FromEach (F.told folder.old) IsJustMade (OpenedBy (F.told folder.new) opened)) }
+    ensures made { OnOk result (FromEach (F.told folder.old) IsJustMade (MadeBy (F.told folder.new))) }
+    ensures stops { FromEach (F.told folder.old) IsJustMade (MendingBy (F.told folder.old) (F.told folder.new)) }
+    ensures last { OnOk result (FromEach (F.told folder.old) IsJustMade (MendedBy (F.told folder.old) (F.told folder.new))) }
     ensures damaged { IfDamaged result (IsOpeningDamage (F.told folder.new)) }
-    ensures untold { ForSome (F.told folder.old).files IsJustMade → IfDamaged result (λ _. (F.told folder.old).files ≡ None) }
+    ensures untold { UndamagedWhere result (F.told folder.old) IsJustMade }
     ensures writes { MayWrite F.told F.faults folder.old folder.new (IfDevice result) }
 {
     let files = BlockFiles::load(folder)?;
@@ -90,7 +88,7 @@ fn open_made<F: Folder>(alloc: Global, folder: &mut F) -> Result<Opened, Fault>
 // Opens a folder whose index is initialized.
 fn open_finished<F: Folder>(alloc: Global, folder: &mut F) -> Result<Opened, OpenFault>
     requires complete { ForSome (F.told folder.old).files HasWholeIndex }
-    ensures opened { IfOk result (λ opened. ForSome (F.told folder.old).files (λ from. IsFinished from → ForSome (F.told folder.new).files (IsOpenedAs from opened))) }
+    ensures opened { IfOk result (λ opened. FromEach (F.told folder.old) IsFinished (OpenedBy (F.told folder.new) opened)) }
     ensures checked { OnOk result (ForSome (F.told folder.old).files (λ from. IsFinished from → IsWellFormed from)) }
     ensures stops { ForSome (F.told folder.old).files (λ from. IsFinished from → OpensOrBreaksOff from (F.told folder.old) (F.told folder.new)) }
     ensures last { OnOk result (ForSome (F.told folder.old).files (λ from. IsFinished from → OpensFolder from (F.told folder.old) (F.told folder.new))) }
@@ -111,9 +109,9 @@ fn open_loaded<F: Folder>(
     files: BlockFiles,
 ) -> Result<Opened, OpenFault>
     requires is_open { ForSome (F.told folder.old).files (IsOpen files) }
-    ensures opened { IfOk result (λ opened. ForSome (F.told folder.old).files (λ from. IsWellFormed from → ForSome (F.told folder.new).files (IsOpenedAs from opened))) }
-    ensures stops { ForSome (F.told folder.old).files (λ from. IsWellFormed from → EndsOrBreaksOff (F.told folder.old) (F.told folder.new) (IsMidRepair from) (StandsOpened from)) }
-    ensures last { OnOk result (ForSome (F.told folder.old).files (λ from. IsWellFormed from → EndsWithCrashWord (F.told folder.old) (F.told folder.new) (IsMidRepair from) (StandsOpened from))) }
+    ensures opened { IfOk result (λ opened. FromEach (F.told folder.old) IsWellFormed (OpenedBy (F.told folder.new) opened)) }
+    ensures stops { FromEach (F.told folder.old) IsWellFormed (MendingBy (F.told folder.old) (F.told folder.new)) }
+    ensures last { OnOk result (FromEach (F.told folder.old) IsWellFormed (MendedBy (F.told folder.old) (F.told folder.new))) }
     ensures damaged { IfOpenDamaged result (IsOpeningDamage (F.told folder.new)) }
     ensures untold { ForSome (F.told folder.old).files IsWellFormed → IfOpenDamaged result (λ _. (F.told folder.old).files ≡ None) }
     ensures memory { IfOpenMemory result (Stays (F.told folder.old) (F.told folder.new)) }
@@ -127,12 +125,12 @@ fn open_loaded<F: Folder>(
 fn mend<F: Folder>(folder: &mut F, files: BlockFiles, scan: &Scan) -> Result<Opened, Fault>
     requires stand { StandAmong files scan.now }
     requires is_open { ForSome (F.told folder.old).files (IsOpen files) }
-    ensures opened { IfOk result (λ opened. ForSome (F.told folder.old).files (λ from. IsRepairable scan.now from → ForSome (F.told folder.new).files (IsOpenedAs from opened))) }
-    ensures made { OnOk result (ForSome (F.told folder.old).files (λ from. IsRepairable scan.now from → NeedsOnlyWords scan.now from → ForSome (F.told folder.new).files (WasMadeAt (create_time_of (byte from index))))) }
-    ensures stops { ForSome (F.told folder.old).files (λ from. IsRepairable scan.now from → EndsOrBreaksOff (F.told folder.old) (F.told folder.new) (IsMidRepair from) (StandsOpened from)) }
-    ensures last { OnOk result (ForSome (F.told folder.old).files (λ from. IsRepairable scan.now from → EndsWithCrashWord (F.told folder.old) (F.told folder.new) (IsMidRepair from) (StandsOpened from))) }
+    ensures opened { IfOk result (λ opened. FromEach (F.told folder.old) (IsRepairable scan.now) (OpenedBy (F.told folder.new) opened)) }
+    ensures made { OnOk result (FromEach (F.told folder.old) (IsRepairable scan.now) (λ from. NeedsOnlyWords scan.now from → MadeBy (F.told folder.new) from)) }
+    ensures stops { FromEach (F.told folder.old) (IsRepairable scan.now) (MendingBy (F.told folder.old) (F.told folder.new)) }
+    ensures last { OnOk result (FromEach (F.told folder.old) (IsRepairable scan.now) (MendedBy (F.told folder.old) (F.told folder.new))) }
     ensures damaged { IfDamaged result (IsOpeningDamage (F.told folder.new)) }
-    ensures untold { ForSome (F.told folder.old).files (IsRepairable scan.now) → IfDamaged result (λ _. (F.told folder.old).files ≡ None) }
+    ensures untold { UndamagedWhere result (F.told folder.old) (IsRepairable scan.now) }
     ensures writes { MayWrite F.told F.faults folder.old folder.new (IfDevice result) }
 {
     let mut files = files;

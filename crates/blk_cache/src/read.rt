@@ -1,5 +1,5 @@
 // The command Read.
-ghost use Rattle.std.specs.Prelude.{◌≡◌, IfOk, IfSome, IsTrue, None, Ok, false, OnErr};
+ghost use Rattle.std.specs.Prelude.{◌≡◌, IfOk, IfSome, IsTrue, Ok, false};
 ghost use Rattle.std.specs.Option.{ForSome};
 ghost use Rattle.spec_image.specs.Told.{Stays, MayWrite};
 ghost use Rattle.blk_io.specs.Faults.{IfDamaged, IfDevice};
@@ -7,13 +7,11 @@ ghost use Rattle.blk_model.specs.Request.{to_read};
 ghost use Rattle.blk_model.specs.declared.Answer.TheVariants as answer;
 ghost use Rattle.blk_disk.specs.Open.{IsOpen};
 ghost use Rattle.blk_disk.specs.Tables.{is_node_among};
-ghost use Rattle.law_state.specs.Commands.{Does, MayStopAtEach};
 ghost use Rattle.blk_lru.specs.Damages.{IsTouchDamage};
 ghost use Rattle.blk_lru.specs.Lists.{IsListed};
 ghost use Rattle.blk_object.specs.FailedChecks.{IsFailedCheck};
 ghost use Rattle.blk_cache.specs.Asking.{early_stream_refusal};
-ghost use Rattle.blk_cache.specs.CacheKeeping.{HoldsState};
-ghost use Rattle.blk_cache.specs.CommandClauses.{IsRefused, KeepsAny, SparesRefused};
+ghost use Rattle.blk_cache.specs.CommandClauses.{DoneBy, ForCall, IsRefused, KeepsAny, SparedBy, StopsBy, UndamagedWhere};
 ghost use Rattle.blk_cache.specs.Reading.{IsCommandReadDamage, UsesItem, bytes_there};
 
 use crate::asking::{Asked, NamedStream};
@@ -40,20 +38,20 @@ impl Cache {
         moment: u64,
     ) -> Result<Answer, Fault>
         requires is_open { ForSome (F.told folder.old).files (IsOpen self.now.files) }
-        ensures does { IfOk result (λ answer. Does (HoldsState self.now) (HoldsState self.now) (F.told folder.old) (F.told folder.new) moment (to_read handle stream offset count) answer) }
-        ensures stops { MayStopAtEach (HoldsState self.now) (F.told folder.old) (F.told folder.new) moment (to_read handle stream offset count) }
+        ensures does { ForCall self.now (F.told folder.old) moment (to_read handle stream offset count) (DoneBy self.now (F.told folder.new) result) }
+        ensures stops { ForCall self.now (F.told folder.old) moment (to_read handle stream offset count) (StopsBy (F.told folder.new)) }
 
         // A refusal that the handles and the stream alone decide is given on every folder, and a refusal does nothing.
         ensures refuses { IfSome (early_stream_refusal self.now.handles handle stream) (λ why. result ≡ Ok (answer.Refused why)) }
         ensures quiet { IfOk result (λ answer. IsRefused answer → Stays (F.told folder.old) (F.told folder.new)) }
 
-        ensures spares { OnErr result (SparesRefused (HoldsState self.now) (F.told folder.old) (F.told folder.new) moment (to_read handle stream offset count)) }
+        ensures spares { ForCall self.now (F.told folder.old) moment (to_read handle stream offset count) (SparedBy (F.told folder.new) result) }
         ensures is_open { ForSome (F.told folder.new).files (IsOpen self.now.files) }
 
         // An observable folder reports no corruption where the cache keeps a state.
         ensures damaged { IfDamaged result (IsCommandReadDamage self.now.handles self.now.files (F.told folder.old) (F.told folder.new) handle) }
         ensures cause { IfDamaged result (IsFailedCheck self.now.files (F.told folder.new)) }
-        ensures untold { ForSome (F.told folder.old).files (KeepsAny self.now) → IfDamaged result (λ _. (F.told folder.old).files ≡ None) }
+        ensures untold { UndamagedWhere result (F.told folder.old) (KeepsAny self.now) }
         ensures writes { MayWrite F.told F.faults folder.old folder.new (IfDevice result) }
     {
         let asked = self.ask_stream(folder, handle, stream)?;
@@ -79,7 +77,7 @@ fn use_item<F: Folder>(
     ensures uses { UsesItem files.now (F.told folder.old) (F.told folder.new) object.now moment result }
     ensures is_open { ForSome (F.told folder.new).files (IsOpen files.now) }
     ensures damaged { IfDamaged result (IsTouchDamage object.now.node files.now (F.told folder.old) (F.told folder.new)) }
-    ensures untold { ForSome (F.told folder.old).files (λ image. object.now.doomed ≡ false → IsListed object.now.node image) → IfDamaged result (λ _. (F.told folder.old).files ≡ None) }
+    ensures untold { UndamagedWhere result (F.told folder.old) (λ image. object.now.doomed ≡ false → IsListed object.now.node image) }
     ensures writes { MayWrite F.told F.faults folder.old folder.new (IfDevice result) }
 {
     if object.doomed {

@@ -1,12 +1,13 @@
 // The bytes of a Read are printed.
-ghost use Rattle.std.specs.Prelude.{◌≡◌, ◌<◌, ◌^◌, None, OnOk};
-ghost use Rattle.std.specs.Option.{ForSome};
+ghost use Rattle.std.specs.Prelude.{◌≡◌, ◌<◌, ◌^◌, OnOk};
 ghost use Rattle.spec_image.specs.Told.{ReadsOnly};
 ghost use Rattle.blk_io.specs.Faults.{IfDamaged, IfDevice};
 ghost use Rattle.blk_io.specs.Streams.{GoesOn};
 ghost use Rattle.blk_object.specs.FailedChecks.{IsFailedCheck};
 ghost use Rattle.blk_cache.specs.ReadPrinting.{ForRange, KeepsRange, can_be_read};
-ghost use Rattle.blk_evict.specs.RoomPrinting.{FailsWhereItRose, PrintsUnlessFailed, PrintsInPart};
+ghost use Rattle.blk_cache.specs.CommandClauses.{UndamagedWhere};
+ghost use Rattle.blk_cache.specs.Stepping.{Puts, PutsPart};
+ghost use Rattle.blk_evict.specs.RoomPrinting.{FailsWhereItRose};
 
 use crate::asking::STREAMS;
 use crate::cache::Cache;
@@ -35,14 +36,14 @@ impl Cache {
         failed: &mut bool,
         range: ReadRange,
     ) -> Result<(), Fault>
-        ensures printed { OnOk result (ForRange self.now (F.told folder.old) range (PrintsUnlessFailed failed.old failed.new (K.written out.old) (K.written out.new))) }
-        ensures part { ForRange self.now (F.told folder.old) range (PrintsInPart failed.old (K.written out.old) (K.written out.new)) }
+        ensures printed { OnOk result (ForRange self.now (F.told folder.old) range (Puts failed.old failed.new K.written out.old out.new)) }
+        ensures part { ForRange self.now (F.told folder.old) range (PutsPart failed.old K.written out.old out.new) }
         ensures failed { FailsWhereItRose failed.old failed.new (K.faults out.old) (K.faults out.new) }
         ensures reads { ReadsOnly F.told F.faults folder.old folder.new (IfDevice result) }
 
         // An observable folder reports no corruption where the cache keeps a state with so many bytes.
         ensures damaged { IfDamaged result (IsFailedCheck self.now.files (F.told folder.new)) }
-        ensures untold { ForSome (F.told folder.old).files (KeepsRange self.now range) → IfDamaged result (λ _. (F.told folder.old).files ≡ None) }
+        ensures untold { UndamagedWhere result (F.told folder.old) (KeepsRange self.now range) }
         ensures later_out { GoesOn K.is K.faults out.old out.new }
     {
         let Some(object) = self.handles.object(range.handle) else {

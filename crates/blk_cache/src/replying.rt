@@ -1,5 +1,5 @@
 // The reply of a command.
-ghost use Rattle.std.specs.Prelude.{◌≡◌, ◌≢◌, ℕ, None, OnOk};
+ghost use Rattle.std.specs.Prelude.{◌≢◌, ℕ, OnOk};
 ghost use Rattle.std.specs.Option.{ForSome};
 ghost use Rattle.spec_image.specs.Told.{ReadsOnly};
 ghost use Rattle.blk_io.specs.Faults.{IfDamaged, IfDevice};
@@ -9,10 +9,11 @@ ghost use Rattle.blk_model.specs.Request.{request_of};
 ghost use Rattle.blk_disk.specs.Open.{IsOpen};
 ghost use Rattle.blk_object.specs.FailedChecks.{IsFailedCheck};
 ghost use Rattle.blk_script.specs.Reply.{reply_text};
-ghost use Rattle.blk_cache.specs.CommandClauses.{KeepsAny};
+ghost use Rattle.blk_cache.specs.CommandClauses.{KeepsAny, UndamagedWhere};
 ghost use Rattle.blk_cache.specs.Listing.{OnlyRoomChanges};
-ghost use Rattle.blk_evict.specs.RoomPrinting.{FailsWhereItRose, PrintsUnlessFailed, PrintsInPart};
+ghost use Rattle.blk_evict.specs.RoomPrinting.{FailsWhereItRose};
 ghost use Rattle.blk_cache.specs.Replying.{ForBytes, ForReply, ForRows, KeepsAfter};
+ghost use Rattle.blk_cache.specs.Stepping.{Puts, PutsPart};
 
 use crate::cache::Cache;
 use crate::read_printing::ReadRange;
@@ -34,15 +35,15 @@ impl Cache {
         answer: &Answer,
     ) -> Result<(), Fault>
         requires is_open { ForSome (F.told folder.old).files (IsOpen self.old.files) }
-        ensures printed { OnOk result (ForReply self.old (F.told folder.old) (request_of command.now) answer.now (PrintsUnlessFailed failed.old failed.new (K.written out.old) (K.written out.new))) }
-        ensures part { ForReply self.old (F.told folder.old) (request_of command.now) answer.now (PrintsInPart failed.old (K.written out.old) (K.written out.new)) }
+        ensures printed { OnOk result (ForReply self.old (F.told folder.old) (request_of command.now) answer.now (Puts failed.old failed.new K.written out.old out.new)) }
+        ensures part { ForReply self.old (F.told folder.old) (request_of command.now) answer.now (PutsPart failed.old K.written out.old out.new) }
         ensures failed { FailsWhereItRose failed.old failed.new (K.faults out.old) (K.faults out.new) }
         ensures others { OnlyRoomChanges self.old self.new }
         ensures reads { ReadsOnly F.told F.faults folder.old folder.new (IfDevice result) }
 
         // An observable folder reports no corruption where the cache keeps the state after the command.
         ensures damaged { IfDamaged result (IsFailedCheck self.new.files (F.told folder.new)) }
-        ensures untold { ForSome (F.told folder.old).files (KeepsAfter self.old (request_of command.now) answer.now) → IfDamaged result (λ _. (F.told folder.old).files ≡ None) }
+        ensures untold { UndamagedWhere result (F.told folder.old) (KeepsAfter self.old (request_of command.now) answer.now) }
         ensures later_out { GoesOn K.is K.faults out.old out.new }
     {
         match *answer {
@@ -65,13 +66,13 @@ impl Cache {
         number: u64,
     ) -> Result<(), Fault>
         requires is_open { ForSome (F.told folder.old).files (IsOpen self.old.files) }
-        ensures printed { OnOk result (ForBytes self.old (F.told folder.old) (request_of command.now) number (PrintsUnlessFailed failed.old failed.new (K.written out.old) (K.written out.new))) }
-        ensures part { ForBytes self.old (F.told folder.old) (request_of command.now) number (PrintsInPart failed.old (K.written out.old) (K.written out.new)) }
+        ensures printed { OnOk result (ForBytes self.old (F.told folder.old) (request_of command.now) number (Puts failed.old failed.new K.written out.old out.new)) }
+        ensures part { ForBytes self.old (F.told folder.old) (request_of command.now) number (PutsPart failed.old K.written out.old out.new) }
         ensures failed { FailsWhereItRose failed.old failed.new (K.faults out.old) (K.faults out.new) }
         ensures others { OnlyRoomChanges self.old self.new }
         ensures reads { ReadsOnly F.told F.faults folder.old folder.new (IfDevice result) }
         ensures damaged { IfDamaged result (IsFailedCheck self.new.files (F.told folder.new)) }
-        ensures untold { ForSome (F.told folder.old).files (KeepsAfter self.old (request_of command.now) (Answer.Bytes number)) → IfDamaged result (λ _. (F.told folder.old).files ≡ None) }
+        ensures untold { UndamagedWhere result (F.told folder.old) (KeepsAfter self.old (request_of command.now) (Answer.Bytes number)) }
         ensures later_out { GoesOn K.is K.faults out.old out.new }
     {
         match *command {
@@ -105,13 +106,13 @@ impl Cache {
         answer: &Answer,
     ) -> Result<(), Fault>
         requires has_line { (n : ℕ) → answer.now ≢ Answer.Bytes n }
-        ensures printed { OnOk result (ForRows self.old (F.told folder.old) answer.now (PrintsUnlessFailed failed.old failed.new (K.written out.old) (K.written out.new))) }
-        ensures part { ForRows self.old (F.told folder.old) answer.now (PrintsInPart failed.old (K.written out.old) (K.written out.new)) }
+        ensures printed { OnOk result (ForRows self.old (F.told folder.old) answer.now (Puts failed.old failed.new K.written out.old out.new)) }
+        ensures part { ForRows self.old (F.told folder.old) answer.now (PutsPart failed.old K.written out.old out.new) }
         ensures failed { FailsWhereItRose failed.old failed.new (K.faults out.old) (K.faults out.new) }
         ensures others { OnlyRoomChanges self.old self.new }
         ensures reads { ReadsOnly F.told F.faults folder.old folder.new (IfDevice result) }
         ensures damaged { IfDamaged result (IsFailedCheck self.new.files (F.told folder.new)) }
-        ensures untold { ForSome (F.told folder.old).files (KeepsAny self.old) → IfDamaged result (λ _. (F.told folder.old).files ≡ None) }
+        ensures untold { UndamagedWhere result (F.told folder.old) (KeepsAny self.old) }
         ensures later_out { GoesOn K.is K.faults out.old out.new }
     {
         self.print_rows(folder, out, failed)?;
@@ -123,7 +124,7 @@ impl Cache {
 // Prints the line of an answer, unless the output failed before.
 fn say_answer<K: Sink>(out: &mut K, failed: &mut bool, answer: &Answer)
     requires has_line { (n : ℕ) → answer.now ≢ Answer.Bytes n }
-    ensures prints { PrintsUnlessFailed failed.old failed.new (K.written out.old) (K.written out.new) (reply_text (answered answer.now)) }
+    ensures prints { Puts failed.old failed.new K.written out.old out.new (reply_text (answered answer.now)) }
     ensures failed { FailsWhereItRose failed.old failed.new (K.faults out.old) (K.faults out.new) }
     ensures later { GoesOn K.is K.faults out.old out.new }
 {

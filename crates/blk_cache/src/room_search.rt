@@ -13,6 +13,7 @@ ghost use Rattle.blk_cache.specs.CacheKeeping.{HoldsState};
 ghost use Rattle.blk_cache.specs.Covering.{LieCovered, covers};
 ghost use Rattle.blk_evict.specs.ListPlaces.{IsLast, IsPinnedFrom};
 ghost use Rattle.blk_cache.specs.RoomSearch.{KeepsPinnedFrom};
+ghost use Rattle.blk_cache.specs.CommandClauses.{UndamagedWhere};
 
 use crate::cache::Cache;
 use crate::covered::Covered;
@@ -48,7 +49,7 @@ impl Cache {
         ensures damaged { IfDamaged result (IsFailedCheck self.now.files (F.told folder.new)) }
 
         // An observable folder reports no corruption where the cache keeps a state.
-        ensures untold { ForSome (F.told folder.old).files (KeepsPinnedFrom self.now parts.now behind) → IfDamaged result (λ _. (F.told folder.old).files ≡ None) }
+        ensures untold { UndamagedWhere result (F.told folder.old) (KeepsPinnedFrom self.now parts.now behind) }
     {
         let mut behind = behind;
         for _ in 0..MOST_NODES + 1 {

@@ -1,15 +1,12 @@
 // The command Size.
-ghost use Rattle.std.specs.Prelude.{◌≡◌, ℕ, IfOk, IfSome, None, Ok};
-ghost use Rattle.std.specs.Option.{ForSome};
+ghost use Rattle.std.specs.Prelude.{◌≡◌, ℕ, IfSome, Ok};
 ghost use Rattle.spec_image.specs.Told.{ReadsOnly};
 ghost use Rattle.blk_io.specs.Faults.{IfDamaged, IfDevice};
 ghost use Rattle.blk_model.specs.Request.{to_size};
 ghost use Rattle.blk_model.specs.declared.Answer.TheVariants as answer;
-ghost use Rattle.law_state.specs.Commands.{Does};
 ghost use Rattle.blk_object.specs.FailedChecks.{IsFailedCheck};
 ghost use Rattle.blk_cache.specs.Asking.{IsAskDamage, early_stream_refusal};
-ghost use Rattle.blk_cache.specs.CacheKeeping.{HoldsState};
-ghost use Rattle.blk_cache.specs.CommandClauses.{KeepsAny};
+ghost use Rattle.blk_cache.specs.CommandClauses.{DoneBy, ForCall, KeepsAny, UndamagedWhere};
 
 use crate::asking::Asked;
 use crate::cache::Cache;
@@ -27,7 +24,7 @@ impl Cache {
         handle: u16,
         stream: u8,
     ) -> Result<Answer, Fault>
-        ensures does { (moment : ℕ) → IfOk result (λ answer. Does (HoldsState self.now) (HoldsState self.now) (F.told folder.old) (F.told folder.new) moment (to_size handle stream) answer) }
+        ensures does { (moment : ℕ) → ForCall self.now (F.told folder.old) moment (to_size handle stream) (DoneBy self.now (F.told folder.new) result) }
         ensures reads { ReadsOnly F.told F.faults folder.old folder.new (IfDevice result) }
 
         // A refusal that the handles and the stream alone decide is given on every folder.
@@ -36,7 +33,7 @@ impl Cache {
         // An observable folder reports no corruption where the cache keeps a state.
         ensures damaged { IfDamaged result (IsAskDamage self.now.handles (F.told folder.old) handle) }
         ensures cause { IfDamaged result (IsFailedCheck self.now.files (F.told folder.new)) }
-        ensures untold { ForSome (F.told folder.old).files (KeepsAny self.now) → IfDamaged result (λ _. (F.told folder.old).files ≡ None) }
+        ensures untold { UndamagedWhere result (F.told folder.old) (KeepsAny self.now) }
     {
         let asked = self.ask_stream(folder, handle, stream)?;
         match asked {

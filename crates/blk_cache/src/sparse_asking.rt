@@ -1,5 +1,5 @@
 // The live object that a request on sparse data names by a handle.
-ghost use Rattle.std.specs.Prelude.{◌≡◌, ◌&&◌, ◌==◌, IfOk, IfSome, None, Ok, slice_index};
+ghost use Rattle.std.specs.Prelude.{◌≡◌, ◌&&◌, ◌==◌, IfOk, IfSome, Ok, slice_index};
 ghost use Rattle.std.specs.Option.{ForSome};
 ghost use Rattle.spec_image.specs.Told.{ReadsOnly};
 ghost use Rattle.blk_io.specs.Faults.{IfDamaged, IfDevice};
@@ -8,7 +8,7 @@ ghost use Rattle.blk_object.specs.FailedChecks.{IsFailedCheck};
 ghost use Rattle.blk_cache.specs.SparseAsking.{FindsInside, IsAmongFiles, IsAskedSparse, early_sparse_refusal};
 ghost use Rattle.blk_cache.specs.declared.sparse_asking.AskedSparse.TheVariants as asked;
 ghost use Rattle.blk_cache.specs.CacheKeeping.{HoldsState};
-ghost use Rattle.blk_cache.specs.CommandClauses.{KeepsAny};
+ghost use Rattle.blk_cache.specs.CommandClauses.{KeepsAny, UndamagedWhere};
 
 use crate::cache::Cache;
 use blk_addr::Addr;
@@ -63,7 +63,7 @@ impl Cache {
 
         // Corruption is a check that fails on what is read here. An observable folder gives none where the cache keeps a state.
         ensures damaged { IfDamaged result (IsFailedCheck self.now.files (F.told folder.new)) }
-        ensures untold { ForSome (F.told folder.old).files (KeepsAny self.now) → IfDamaged result (λ _. (F.told folder.old).files ≡ None) }
+        ensures untold { UndamagedWhere result (F.told folder.old) (KeepsAny self.now) }
     {
         if let Some(why) = self.refuses_range(handle, offset, count) {
             return Ok(AskedSparse::Refused(why));

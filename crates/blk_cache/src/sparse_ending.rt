@@ -1,5 +1,5 @@
 // The end of a SparseWrite: its object is dirty, and then the bytes are stored and counted.
-ghost use Rattle.std.specs.Prelude.{◌≡◌, ◌≤◌, ◌<◌, ◌+◌, IfOk, IsSome, None, OnOk, length};
+ghost use Rattle.std.specs.Prelude.{◌≡◌, ◌≤◌, ◌<◌, ◌+◌, IfOk, IsSome, OnOk, length};
 ghost use Rattle.std.specs.Option.{ForSome};
 ghost use Rattle.spec_image.specs.Told.{Passes, MayWrite};
 ghost use Rattle.blk_io.specs.Faults.{IfDamaged, IfDevice};
@@ -15,6 +15,7 @@ ghost use Rattle.blk_object.specs.FailedChecks.{IsFailedCheck};
 ghost use Rattle.blk_sparse.specs.SparseWrites.{signature_to, sparse_state};
 ghost use Rattle.blk_cache.specs.CacheKeeping.{HoldsState};
 ghost use Rattle.blk_cache.specs.SparseWriting.{CanStore, CountsParts, IsReadyToStoreFor, IsReadyToStoreForSome, KeepsToStoreFor, own_target, sparse_write_of};
+ghost use Rattle.blk_cache.specs.CommandClauses.{UndamagedWhere};
 
 use crate::cache::Cache;
 use crate::sparse_writing::SparseRequest;
@@ -53,7 +54,7 @@ impl Cache {
         ensures mark { self.new.mark ≡ self.old.mark }
         ensures is_open { OnOk result (ForSome (F.told folder.new).files (IsOpen self.new.files)) }
         ensures damaged { IfDamaged result (IsFailedCheck self.new.files (F.told folder.new)) }
-        ensures untold { ForSome (F.told folder.old).files (IsReadyToStoreForSome self.old request.now target.now more_bytes more_items) → IfDamaged result (λ _. (F.told folder.old).files ≡ None) }
+        ensures untold { UndamagedWhere result (F.told folder.old) (IsReadyToStoreForSome self.old request.now target.now more_bytes more_items) }
         ensures writes { MayWrite F.told F.faults folder.old folder.new (IfDevice result) }
     {
         self.set_dirty(folder, request.handle, true)?;
@@ -87,7 +88,7 @@ impl Cache {
         ensures mark { self.new.mark ≡ self.old.mark }
         ensures is_open { OnOk result (ForSome (F.told folder.new).files (IsOpen self.new.files)) }
         ensures damaged { IfDamaged result (IsFailedCheck self.new.files (F.told folder.new)) }
-        ensures untold { ForSome (F.told folder.old).files (KeepsToStoreFor self.old request.now target.now more_bytes more_items) → IfDamaged result (λ _. (F.told folder.old).files ≡ None) }
+        ensures untold { UndamagedWhere result (F.told folder.old) (KeepsToStoreFor self.old request.now target.now more_bytes more_items) }
         ensures writes { MayWrite F.told F.faults folder.old folder.new (IfDevice result) }
     {
         let Some(object) = self.handles.object(request.handle) else {

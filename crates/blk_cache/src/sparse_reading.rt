@@ -1,14 +1,12 @@
 // The commands SparseRead and SparseRange.
-ghost use Rattle.std.specs.Prelude.{◌≡◌, IfOk, IfSome, None, Ok, OnErr};
+ghost use Rattle.std.specs.Prelude.{◌≡◌, IfOk, IfSome, Ok};
 ghost use Rattle.std.specs.Option.{ForSome};
 ghost use Rattle.spec_image.specs.Told.{Stays, MayWrite};
 ghost use Rattle.blk_io.specs.Faults.{IfDamaged, IfDevice};
 ghost use Rattle.blk_model.specs.declared.Answer.TheVariants as answer;
 ghost use Rattle.blk_disk.specs.Open.{IsOpen};
-ghost use Rattle.law_state.specs.Commands.{Does, MayStopAtEach};
 ghost use Rattle.blk_object.specs.FailedChecks.{IsFailedCheck};
-ghost use Rattle.blk_cache.specs.CacheKeeping.{HoldsState};
-ghost use Rattle.blk_cache.specs.CommandClauses.{IsRefused, KeepsAny, SparesRefused};
+ghost use Rattle.blk_cache.specs.CommandClauses.{DoneBy, ForCall, IsRefused, KeepsAny, SparedBy, StopsBy, UndamagedWhere};
 ghost use Rattle.blk_cache.specs.Listing.{OnlyRoomChanges};
 ghost use Rattle.blk_cache.specs.SparseAsking.{early_sparse_refusal};
 ghost use Rattle.blk_cache.specs.SparseReading.{to_use_sparse, told_of_run};
@@ -46,21 +44,21 @@ impl Cache {
         moment: u64,
     ) -> Result<Answer, Fault>
         requires is_open { ForSome (F.told folder.old).files (IsOpen self.old.files) }
-        ensures does { IfOk result (λ answer. Does (HoldsState self.old) (HoldsState self.new) (F.told folder.old) (F.told folder.new) moment (to_use_sparse wanted handle offset count) answer) }
-        ensures stops { MayStopAtEach (HoldsState self.old) (F.told folder.old) (F.told folder.new) moment (to_use_sparse wanted handle offset count) }
+        ensures does { ForCall self.old (F.told folder.old) moment (to_use_sparse wanted handle offset count) (DoneBy self.new (F.told folder.new) result) }
+        ensures stops { ForCall self.old (F.told folder.old) moment (to_use_sparse wanted handle offset count) (StopsBy (F.told folder.new)) }
 
         // A refusal that the handles and the range alone decide is given on every folder, and a refusal does nothing.
         ensures refuses { IfSome (early_sparse_refusal self.old.handles handle offset count) (λ why. result ≡ Ok (answer.Refused why)) }
         ensures quiet { IfOk result (λ answer. IsRefused answer → Stays (F.told folder.old) (F.told folder.new)) }
         ensures unchanged { IfOk result (λ answer. IsRefused answer → self.new ≡ self.old) }
 
-        ensures spares { OnErr result (SparesRefused (HoldsState self.old) (F.told folder.old) (F.told folder.new) moment (to_use_sparse wanted handle offset count)) }
+        ensures spares { ForCall self.old (F.told folder.old) moment (to_use_sparse wanted handle offset count) (SparedBy (F.told folder.new) result) }
         ensures others { OnlyRoomChanges self.old self.new }
         ensures is_open { ForSome (F.told folder.new).files (IsOpen self.new.files) }
 
         // Corruption is a check that fails on what is read here; nothing is written after it. An observable folder gives none where the cache keeps a state.
         ensures damaged { IfDamaged result (IsFailedCheck self.new.files (F.told folder.new)) }
-        ensures untold { ForSome (F.told folder.old).files (KeepsAny self.old) → IfDamaged result (λ _. (F.told folder.old).files ≡ None) }
+        ensures untold { UndamagedWhere result (F.told folder.old) (KeepsAny self.old) }
         ensures writes { MayWrite F.told F.faults folder.old folder.new (IfDevice result) }
     {
         let asked = self.ask_sparse(folder, handle, offset, count)?;

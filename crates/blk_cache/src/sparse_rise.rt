@@ -1,5 +1,5 @@
 // What a SparseWrite adds, measured before space is made for it.
-ghost use Rattle.std.specs.Prelude.{◌≡◌, ◌≤◌, ◌<◌, ◌+◌, ◌^◌, ℕ, IfOk, IsTrue, List, None, length};
+ghost use Rattle.std.specs.Prelude.{◌≡◌, ◌≤◌, ◌<◌, ◌+◌, ◌^◌, ℕ, IfOk, IsTrue, List, length};
 ghost use Rattle.std.specs.Option.{ForSome};
 ghost use Rattle.spec_image.specs.Told.{ReadsOnly};
 ghost use Rattle.blk_io.specs.Faults.{IfDamaged, IfDevice};
@@ -14,6 +14,7 @@ ghost use Rattle.blk_sparse.specs.SparseWrites.{signature_to};
 ghost use Rattle.blk_cache.specs.CacheKeeping.{HoldsState};
 ghost use Rattle.blk_cache.specs.Listing.{OnlyRoomChanges};
 ghost use Rattle.blk_cache.specs.SparseTargets.{IsRise, IsTargetNamed, rise_of};
+ghost use Rattle.blk_cache.specs.CommandClauses.{OpaqueIfDamaged};
 
 use crate::cache::Cache;
 use crate::covered::Covered;
@@ -54,7 +55,7 @@ impl Cache {
 
         // Corruption is a check that fails on what is read here. An observable folder gives none where the cache keeps such a state.
         ensures damaged { IfDamaged result (IsFailedCheck self.new.files (F.told folder.new)) }
-        ensures untold { ForSome (F.told folder.old).files (λ image. (state : State) (k : HoldsState self.old state image) (moment handle : ℕ) → IsTargetNamed state k.layout moment handle offset count target.now → IfDamaged result (λ _. (F.told folder.old).files ≡ None)) }
+        ensures untold { ForSome (F.told folder.old).files (λ image. (state : State) (k : HoldsState self.old state image) (moment handle : ℕ) → IsTargetNamed state k.layout moment handle offset count target.now → OpaqueIfDamaged result (F.told folder.old)) }
     {
         let found = self.measure_parts(folder, target, offset, count)?;
         Ok(rise_of(target, &found))
@@ -79,7 +80,7 @@ impl Cache {
         ensures reads { ReadsOnly F.told F.faults folder.old folder.new (IfDevice result) }
         ensures others { OnlyRoomChanges self.old self.new }
         ensures damaged { IfDamaged result (IsFailedCheck self.new.files (F.told folder.new)) }
-        ensures untold { ForSome (F.told folder.old).files (λ image. (state : State) (k : HoldsState self.old state image) (moment handle : ℕ) → IsTargetNamed state k.layout moment handle offset count target.now → IfDamaged result (λ _. (F.told folder.old).files ≡ None)) }
+        ensures untold { ForSome (F.told folder.old).files (λ image. (state : State) (k : HoldsState self.old state image) (moment handle : ℕ) → IsTargetNamed state k.layout moment handle offset count target.now → OpaqueIfDamaged result (F.told folder.old)) }
     {
         if target.plain {
             return measure_plain(

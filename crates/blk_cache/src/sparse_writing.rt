@@ -1,25 +1,22 @@
 // The command SparseWrite.
-ghost use Rattle.std.specs.Prelude.{◌≡◌, ◌≤◌, ◌<◌, ◌+◌, ◌^◌, ℕ, [], IfOk, IfSome, IsSome, IsTrue, None, Ok, OnOk, length, OnErr};
+ghost use Rattle.std.specs.Prelude.{◌≡◌, ◌≤◌, ◌<◌, ◌+◌, ◌^◌, IfOk, IfSome, IsSome, IsTrue, Ok, OnOk, length};
 ghost use Rattle.std.specs.Option.{ForSome};
 ghost use Rattle.spec_image.specs.Told.{Stays, MayWrite};
 ghost use Rattle.blk_io.specs.Faults.{IfDamaged, IfDevice};
 ghost use Rattle.blk_io.specs.Streams.{GoesOn};
-ghost use Rattle.blk_model.specs.Request.{to_sparse_write};
 ghost use Rattle.blk_model.specs.Sizes.{largest_offset, part_size, signatures};
 ghost use Rattle.blk_model.specs.declared.Answer.TheVariants as answer;
 ghost use Rattle.blk_disk.specs.Open.{IsOpen};
 ghost use Rattle.blk_disk.specs.Tables.{is_node_among, is_record_among};
 ghost use Rattle.blk_handles.specs.Bindings.{binding_of};
-ghost use Rattle.law_state.specs.Commands.{Does, MayStopAtEach};
 ghost use Rattle.blk_object.specs.FailedChecks.{IsFailedCheck};
 ghost use Rattle.blk_sparse.specs.SparseWrites.{signature_to};
-ghost use Rattle.blk_cache.specs.CacheKeeping.{HoldsState};
-ghost use Rattle.blk_cache.specs.CommandClauses.{IsRefused, KeepsAny, SparesRefused};
+ghost use Rattle.blk_cache.specs.CommandClauses.{DoneBy, IsRefused, KeepsAny, SparedBy, StopsBy, UndamagedBy, UndamagedWhere};
 ghost use Rattle.blk_cache.specs.Listing.{OnlyRoomChanges};
-ghost use Rattle.blk_cache.specs.SparseTargets.{AsksToStoreFor, HasRoomToStoreFor, NamesTargetFor, NamesTarget, early_store_refusal};
-ghost use Rattle.blk_cache.specs.SparseWriting.{sparse_write_of};
+ghost use Rattle.blk_cache.specs.SparseTargets.{ForEmptyWrites, WhereAsks, WhereNamed, WhereRoom, early_store_refusal};
+ghost use Rattle.blk_cache.specs.SparseWriting.{ForSparseWrite};
 ghost use Rattle.blk_evict.specs.RoomPrinting.{FailsWhereItRose};
-ghost use Rattle.blk_cache.specs.Stepping.{SaysEvicted, SaysPrefix};
+ghost use Rattle.blk_cache.specs.Stepping.{FrontBy, SaidBy};
 
 use crate::cache::Cache;
 use crate::sparse_rise::Rise;
@@ -58,12 +55,12 @@ impl Cache {
         request: &SparseRequest,
     ) -> Result<Answer, Fault>
         requires is_open { ForSome (F.told folder.old).files (IsOpen self.old.files) }
-        ensures does { IfOk result (λ answer. Does (HoldsState self.old) (HoldsState self.new) (F.told folder.old) (F.told folder.new) request.now.moment (sparse_write_of request.now) answer) }
-        ensures stops { MayStopAtEach (HoldsState self.old) (F.told folder.old) (F.told folder.new) request.now.moment (sparse_write_of request.now) }
+        ensures does { ForSparseWrite self.old (F.told folder.old) request.now (DoneBy self.new (F.told folder.new) result) }
+        ensures stops { ForSparseWrite self.old (F.told folder.old) request.now (StopsBy (F.told folder.new)) }
 
         // What it evicts is printed, and on any answer a prefix of that.
-        ensures says { OnOk result (SaysEvicted self.old (F.told folder.old) request.now.moment (sparse_write_of request.now) failed.old failed.new (K.written out.old) (K.written out.new)) }
-        ensures front { SaysPrefix (HoldsState self.old) (F.told folder.old) request.now.moment (sparse_write_of request.now) (K.written out.old) (K.written out.new) }
+        ensures says { ForSparseWrite self.old (F.told folder.old) request.now (SaidBy failed.old failed.new K.written out.old out.new result) }
+        ensures front { ForSparseWrite self.old (F.told folder.old) request.now (FrontBy K.written out.old out.new) }
         ensures fails { FailsWhereItRose failed.old failed.new (K.faults out.old) (K.faults out.new) }
 
         // A refusal that the handles and the range alone decide is given on every folder, and a refusal does nothing, but to the buffers for
@@ -72,14 +69,14 @@ impl Cache {
         ensures quiet { IfOk result (λ answer. IsRefused answer → Stays (F.told folder.old) (F.told folder.new)) }
         ensures unchanged { IfOk result (λ answer. IsRefused answer → OnlyRoomChanges self.old self.new) }
 
-        ensures spares { OnErr result (SparesRefused (HoldsState self.old) (F.told folder.old) (F.told folder.new) request.now.moment (sparse_write_of request.now)) }
+        ensures spares { ForSparseWrite self.old (F.told folder.old) request.now (SparedBy (F.told folder.new) result) }
         ensures is_open { OnOk result (ForSome (F.told folder.new).files (IsOpen self.new.files)) }
         ensures notes { self.new.notes ≡ self.old.notes }
         ensures mark { self.new.mark ≡ self.old.mark }
 
         // Corruption is a check that fails on what is read here; nothing is written after it. An observable folder gives none where the cache keeps a state.
         ensures damaged { IfDamaged result (IsFailedCheck self.new.files (F.told folder.new)) }
-        ensures untold { ForSome (F.told folder.old).files (KeepsAny self.old) → IfDamaged result (λ _. (F.told folder.old).files ≡ None) }
+        ensures untold { UndamagedWhere result (F.told folder.old) (KeepsAny self.old) }
         ensures writes { MayWrite F.told F.faults folder.old folder.new (IfDevice result) }
         ensures sink_later { GoesOn K.is K.faults out.old out.new }
     {
@@ -116,24 +113,24 @@ impl Cache {
         requires is_open { ForSome (F.told folder.old).files (IsOpen self.old.files) }
 
         // The SparseWrite is done as in the model, and after each single write the folder is as a crash in it may leave it.
-        ensures does { NamesTargetFor self.old (F.told folder.old) request.now target.now → IfOk result (λ answer. Does (HoldsState self.old) (HoldsState self.new) (F.told folder.old) (F.told folder.new) request.now.moment (sparse_write_of request.now) answer) }
-        ensures stops { NamesTargetFor self.old (F.told folder.old) request.now target.now → MayStopAtEach (HoldsState self.old) (F.told folder.old) (F.told folder.new) request.now.moment (sparse_write_of request.now) }
+        ensures does { WhereNamed self.old (F.told folder.old) request.now target.now (DoneBy self.new (F.told folder.new) result) }
+        ensures stops { WhereNamed self.old (F.told folder.old) request.now target.now (StopsBy (F.told folder.new)) }
 
         // What it evicts is printed, and on any answer a prefix of that.
-        ensures says { NamesTargetFor self.old (F.told folder.old) request.now target.now → OnOk result (SaysEvicted self.old (F.told folder.old) request.now.moment (sparse_write_of request.now) failed.old failed.new (K.written out.old) (K.written out.new)) }
-        ensures front { NamesTargetFor self.old (F.told folder.old) request.now target.now → SaysPrefix (HoldsState self.old) (F.told folder.old) request.now.moment (sparse_write_of request.now) (K.written out.old) (K.written out.new) }
+        ensures says { WhereNamed self.old (F.told folder.old) request.now target.now (SaidBy failed.old failed.new K.written out.old out.new result) }
+        ensures front { WhereNamed self.old (F.told folder.old) request.now target.now (FrontBy K.written out.old out.new) }
         ensures fails { FailsWhereItRose failed.old failed.new (K.faults out.old) (K.faults out.new) }
 
         // A refusal does nothing, but to the buffers for names.
         ensures quiet { IfOk result (λ answer. IsRefused answer → Stays (F.told folder.old) (F.told folder.new)) }
         ensures unchanged { IfOk result (λ answer. IsRefused answer → OnlyRoomChanges self.old self.new) }
 
-        ensures spares { NamesTargetFor self.old (F.told folder.old) request.now target.now → OnErr result (SparesRefused (HoldsState self.old) (F.told folder.old) (F.told folder.new) request.now.moment (sparse_write_of request.now)) }
+        ensures spares { WhereNamed self.old (F.told folder.old) request.now target.now (SparedBy (F.told folder.new) result) }
         ensures is_open { OnOk result (ForSome (F.told folder.new).files (IsOpen self.new.files)) }
         ensures notes { self.new.notes ≡ self.old.notes }
         ensures mark { self.new.mark ≡ self.old.mark }
         ensures damaged { IfDamaged result (IsFailedCheck self.new.files (F.told folder.new)) }
-        ensures untold { NamesTargetFor self.old (F.told folder.old) request.now target.now → ForSome (F.told folder.old).files (KeepsAny self.old) → IfDamaged result (λ _. (F.told folder.old).files ≡ None) }
+        ensures untold { WhereNamed self.old (F.told folder.old) request.now target.now (UndamagedBy result) }
         ensures writes { MayWrite F.told F.faults folder.old folder.new (IfDevice result) }
         ensures sink_later { GoesOn K.is K.faults out.old out.new }
     {
@@ -162,24 +159,24 @@ impl Cache {
         requires is_open { ForSome (F.told folder.old).files (IsOpen self.old.files) }
 
         // The SparseWrite is done as in the model, and after each single write the folder is as a crash in it may leave it.
-        ensures does { NamesTargetFor self.old (F.told folder.old) request.now target.now → IfOk result (λ answer. Does (HoldsState self.old) (HoldsState self.new) (F.told folder.old) (F.told folder.new) request.now.moment (sparse_write_of request.now) answer) }
-        ensures stops { NamesTargetFor self.old (F.told folder.old) request.now target.now → MayStopAtEach (HoldsState self.old) (F.told folder.old) (F.told folder.new) request.now.moment (sparse_write_of request.now) }
+        ensures does { WhereNamed self.old (F.told folder.old) request.now target.now (DoneBy self.new (F.told folder.new) result) }
+        ensures stops { WhereNamed self.old (F.told folder.old) request.now target.now (StopsBy (F.told folder.new)) }
 
         // What it evicts is printed, and on any answer a prefix of that.
-        ensures says { NamesTargetFor self.old (F.told folder.old) request.now target.now → OnOk result (SaysEvicted self.old (F.told folder.old) request.now.moment (sparse_write_of request.now) failed.old failed.new (K.written out.old) (K.written out.new)) }
-        ensures front { NamesTargetFor self.old (F.told folder.old) request.now target.now → SaysPrefix (HoldsState self.old) (F.told folder.old) request.now.moment (sparse_write_of request.now) (K.written out.old) (K.written out.new) }
+        ensures says { WhereNamed self.old (F.told folder.old) request.now target.now (SaidBy failed.old failed.new K.written out.old out.new result) }
+        ensures front { WhereNamed self.old (F.told folder.old) request.now target.now (FrontBy K.written out.old out.new) }
         ensures fails { FailsWhereItRose failed.old failed.new (K.faults out.old) (K.faults out.new) }
 
         // A refusal does nothing, but to the buffers for names.
         ensures quiet { IfOk result (λ answer. IsRefused answer → Stays (F.told folder.old) (F.told folder.new)) }
         ensures unchanged { IfOk result (λ answer. IsRefused answer → OnlyRoomChanges self.old self.new) }
 
-        ensures spares { NamesTargetFor self.old (F.told folder.old) request.now target.now → OnErr result (SparesRefused (HoldsState self.old) (F.told folder.old) (F.told folder.new) request.now.moment (sparse_write_of request.now)) }
+        ensures spares { WhereNamed self.old (F.told folder.old) request.now target.now (SparedBy (F.told folder.new) result) }
         ensures is_open { OnOk result (ForSome (F.told folder.new).files (IsOpen self.new.files)) }
         ensures notes { self.new.notes ≡ self.old.notes }
         ensures mark { self.new.mark ≡ self.old.mark }
         ensures damaged { IfDamaged result (IsFailedCheck self.new.files (F.told folder.new)) }
-        ensures untold { NamesTargetFor self.old (F.told folder.old) request.now target.now → ForSome (F.told folder.old).files (KeepsAny self.old) → IfDamaged result (λ _. (F.told folder.old).files ≡ None) }
+        ensures untold { WhereNamed self.old (F.told folder.old) request.now target.now (UndamagedBy result) }
         ensures writes { MayWrite F.told F.faults folder.old folder.new (IfDevice result) }
         ensures sink_later { GoesOn K.is K.faults out.old out.new }
     {
@@ -208,24 +205,24 @@ impl Cache {
         requires is_open { ForSome (F.told folder.old).files (IsOpen self.old.files) }
 
         // The SparseWrite is done as in the model, and after each single write the folder is as a crash in it may leave it.
-        ensures does { AsksToStoreFor self.old (F.told folder.old) request.now target.now rise.now → IfOk result (λ answer. Does (HoldsState self.old) (HoldsState self.new) (F.told folder.old) (F.told folder.new) request.now.moment (sparse_write_of request.now) answer) }
-        ensures stops { AsksToStoreFor self.old (F.told folder.old) request.now target.now rise.now → MayStopAtEach (HoldsState self.old) (F.told folder.old) (F.told folder.new) request.now.moment (sparse_write_of request.now) }
+        ensures does { WhereAsks self.old (F.told folder.old) request.now target.now rise.now (DoneBy self.new (F.told folder.new) result) }
+        ensures stops { WhereAsks self.old (F.told folder.old) request.now target.now rise.now (StopsBy (F.told folder.new)) }
 
         // What it evicts is printed, and on any answer a prefix of that.
-        ensures says { AsksToStoreFor self.old (F.told folder.old) request.now target.now rise.now → OnOk result (SaysEvicted self.old (F.told folder.old) request.now.moment (sparse_write_of request.now) failed.old failed.new (K.written out.old) (K.written out.new)) }
-        ensures front { AsksToStoreFor self.old (F.told folder.old) request.now target.now rise.now → SaysPrefix (HoldsState self.old) (F.told folder.old) request.now.moment (sparse_write_of request.now) (K.written out.old) (K.written out.new) }
+        ensures says { WhereAsks self.old (F.told folder.old) request.now target.now rise.now (SaidBy failed.old failed.new K.written out.old out.new result) }
+        ensures front { WhereAsks self.old (F.told folder.old) request.now target.now rise.now (FrontBy K.written out.old out.new) }
         ensures fails { FailsWhereItRose failed.old failed.new (K.faults out.old) (K.faults out.new) }
 
         // A refusal does nothing, but to the buffers for names.
         ensures quiet { IfOk result (λ answer. IsRefused answer → Stays (F.told folder.old) (F.told folder.new)) }
         ensures unchanged { IfOk result (λ answer. IsRefused answer → OnlyRoomChanges self.old self.new) }
 
-        ensures spares { AsksToStoreFor self.old (F.told folder.old) request.now target.now rise.now → OnErr result (SparesRefused (HoldsState self.old) (F.told folder.old) (F.told folder.new) request.now.moment (sparse_write_of request.now)) }
+        ensures spares { WhereAsks self.old (F.told folder.old) request.now target.now rise.now (SparedBy (F.told folder.new) result) }
         ensures is_open { OnOk result (ForSome (F.told folder.new).files (IsOpen self.new.files)) }
         ensures notes { self.new.notes ≡ self.old.notes }
         ensures mark { self.new.mark ≡ self.old.mark }
         ensures damaged { IfDamaged result (IsFailedCheck self.new.files (F.told folder.new)) }
-        ensures untold { AsksToStoreFor self.old (F.told folder.old) request.now target.now rise.now → ForSome (F.told folder.old).files (KeepsAny self.old) → IfDamaged result (λ _. (F.told folder.old).files ≡ None) }
+        ensures untold { WhereAsks self.old (F.told folder.old) request.now target.now rise.now (UndamagedBy result) }
         ensures writes { MayWrite F.told F.faults folder.old folder.new (IfDevice result) }
         ensures sink_later { GoesOn K.is K.faults out.old out.new }
     {
@@ -255,12 +252,12 @@ impl Cache {
         requires is_open { ForSome (F.told folder.old).files (IsOpen self.old.files) }
 
         // The SparseWrite is done as in the model, and after each single write the folder is as a crash in it may leave it.
-        ensures does { HasRoomToStoreFor self.old (F.told folder.old) request.now target.now rise.now → IfOk result (λ answer. Does (HoldsState self.old) (HoldsState self.new) (F.told folder.old) (F.told folder.new) request.now.moment (sparse_write_of request.now) answer) }
-        ensures stops { HasRoomToStoreFor self.old (F.told folder.old) request.now target.now rise.now → MayStopAtEach (HoldsState self.old) (F.told folder.old) (F.told folder.new) request.now.moment (sparse_write_of request.now) }
+        ensures does { WhereRoom self.old (F.told folder.old) request.now target.now rise.now (DoneBy self.new (F.told folder.new) result) }
+        ensures stops { WhereRoom self.old (F.told folder.old) request.now target.now rise.now (StopsBy (F.told folder.new)) }
 
         // What it evicts is printed, and on any answer a prefix of that.
-        ensures says { HasRoomToStoreFor self.old (F.told folder.old) request.now target.now rise.now → OnOk result (SaysEvicted self.old (F.told folder.old) request.now.moment (sparse_write_of request.now) failed.old failed.new (K.written out.old) (K.written out.new)) }
-        ensures front { HasRoomToStoreFor self.old (F.told folder.old) request.now target.now rise.now → SaysPrefix (HoldsState self.old) (F.told folder.old) request.now.moment (sparse_write_of request.now) (K.written out.old) (K.written out.new) }
+        ensures says { WhereRoom self.old (F.told folder.old) request.now target.now rise.now (SaidBy failed.old failed.new K.written out.old out.new result) }
+        ensures front { WhereRoom self.old (F.told folder.old) request.now target.now rise.now (FrontBy K.written out.old out.new) }
         ensures fails { FailsWhereItRose failed.old failed.new (K.faults out.old) (K.faults out.new) }
 
         // A refusal does nothing, but to the buffers for names.
@@ -271,7 +268,7 @@ impl Cache {
         ensures notes { self.new.notes ≡ self.old.notes }
         ensures mark { self.new.mark ≡ self.old.mark }
         ensures damaged { IfDamaged result (IsFailedCheck self.new.files (F.told folder.new)) }
-        ensures untold { HasRoomToStoreFor self.old (F.told folder.old) request.now target.now rise.now → ForSome (F.told folder.old).files (KeepsAny self.old) → IfDamaged result (λ _. (F.told folder.old).files ≡ None) }
+        ensures untold { WhereRoom self.old (F.told folder.old) request.now target.now rise.now (UndamagedBy result) }
         ensures writes { MayWrite F.told F.faults folder.old folder.new (IfDevice result) }
         ensures sink_later { GoesOn K.is K.faults out.old out.new }
     {
@@ -298,12 +295,12 @@ impl Cache {
     ) -> Result<Answer, Fault>
         requires stands { IsTrue (is_node_among self.now.files target.now.parent.node) }
         requires is_open { ForSome (F.told folder.old).files (IsOpen self.now.files) }
-        ensures does { (handle offset : ℕ) → NamesTarget self.now (F.told folder.old) moment handle offset 0 target.now → IfOk result (λ answer. Does (HoldsState self.now) (HoldsState self.now) (F.told folder.old) (F.told folder.new) moment (to_sparse_write handle offset []) answer) }
-        ensures stops { (handle offset : ℕ) → NamesTarget self.now (F.told folder.old) moment handle offset 0 target.now → MayStopAtEach (HoldsState self.now) (F.told folder.old) (F.told folder.new) moment (to_sparse_write handle offset []) }
+        ensures does { ForEmptyWrites self.now (F.told folder.old) moment target.now (DoneBy self.now (F.told folder.new) result) }
+        ensures stops { ForEmptyWrites self.now (F.told folder.old) moment target.now (StopsBy (F.told folder.new)) }
         ensures wrote { IfOk result (λ given. given ≡ answer.Wrote 0) }
         ensures is_open { ForSome (F.told folder.new).files (IsOpen self.now.files) }
         ensures damaged { IfDamaged result (IsFailedCheck self.now.files (F.told folder.new)) }
-        ensures untold { (handle offset : ℕ) → NamesTarget self.now (F.told folder.old) moment handle offset 0 target.now → ForSome (F.told folder.old).files (KeepsAny self.now) → IfDamaged result (λ _. (F.told folder.old).files ≡ None) }
+        ensures untold { ForEmptyWrites self.now (F.told folder.old) moment target.now (UndamagedBy result) }
         ensures writes { MayWrite F.told F.faults folder.old folder.new (IfDevice result) }
     {
         touch(folder, &self.files, target.parent.node, moment)?;

@@ -9,16 +9,16 @@ ghost use Rattle.blk_model.specs.Reply.{answer_of};
 ghost use Rattle.blk_model.specs.Request.{request_of, to_close};
 ghost use Rattle.blk_model.specs.Step.{step};
 ghost use Rattle.blk_disk.specs.Open.{IsOpen};
-ghost use Rattle.law_state.specs.Commands.{Does, ForKept, IsNoted, IsStepped, MayStopAtEach, note_number};
+ghost use Rattle.law_state.specs.Commands.{ForKept, IsNoted, IsStepped, note_number};
 ghost use Rattle.blk_object.specs.FailedChecks.{IsFailedCheck};
 ghost use Rattle.blk_script.specs.Reply.{outcome_text};
 ghost use Rattle.spec_run.specs.Progress.{NotesCommand};
 ghost use Rattle.spec_run.specs.Run.{at_moment};
 ghost use Rattle.spec_run.specs.Script.{is_refused};
 ghost use Rattle.blk_cache.specs.CacheKeeping.{KeepsState, HoldsState};
-ghost use Rattle.blk_cache.specs.CommandClauses.{FlushesClean, IsOnSparse, IsRefused, KeepsAny, OnlyNotesChange, SparesRefused};
+ghost use Rattle.blk_cache.specs.CommandClauses.{DoneBy, FlushesClean, ForCall, IsOnSparse, IsRefused, KeepsAny, OnlyNotesChange, SparedBy, StopsBy, UndamagedWhere};
 ghost use Rattle.blk_evict.specs.RoomPrinting.{FailsWhereItRose};
-ghost use Rattle.blk_cache.specs.Stepping.{FailsBefore, IfDone, IfSink, IfStepDamaged, IfStepDevice, SaysEvicted, SaysPrefix};
+ghost use Rattle.blk_cache.specs.Stepping.{FailsBefore, FrontBy, IfDone, IfSink, IfStepDamaged, IfStepDevice, SaidBy};
 
 use crate::cache::Cache;
 use crate::fault::StepFault;
@@ -122,7 +122,7 @@ impl Cache {
 
         ensures is_open { OnOk result (ForSome (F.told f.new).files (IsOpen self.new.files)) }
         ensures damaged { IfDamaged result (IsFailedCheck self.new.files (F.told f.new)) }
-        ensures untold { ForSome (F.told f.old).files (KeepsAny self.old) → IfDamaged result (λ _. (F.told f.old).files ≡ None) }
+        ensures untold { UndamagedWhere result (F.told f.old) (KeepsAny self.old) }
         ensures later { F.faults f.old ≤ F.faults f.new }
         ensures device { IfDevice result (Rises (F.faults f.old) (F.faults f.new)) }
     {
@@ -151,19 +151,19 @@ impl Cache {
         command: &Command,
     ) -> Result<Answer, Fault>
         requires is_open { ForSome (F.told folder.old).files (IsOpen self.old.files) }
-        ensures does { IfOk result (λ answer. Does (HoldsState self.old) (HoldsState self.new) (F.told folder.old) (F.told folder.new) moment (request_of command.now) answer) }
-        ensures stops { MayStopAtEach (HoldsState self.old) (F.told folder.old) (F.told folder.new) moment (request_of command.now) }
-        ensures says { OnOk result (SaysEvicted self.old (F.told folder.old) moment (request_of command.now) failed.old failed.new (K.written out.old) (K.written out.new)) }
-        ensures front { SaysPrefix (HoldsState self.old) (F.told folder.old) moment (request_of command.now) (K.written out.old) (K.written out.new) }
+        ensures does { ForCall self.old (F.told folder.old) moment (request_of command.now) (DoneBy self.new (F.told folder.new) result) }
+        ensures stops { ForCall self.old (F.told folder.old) moment (request_of command.now) (StopsBy (F.told folder.new)) }
+        ensures says { ForCall self.old (F.told folder.old) moment (request_of command.now) (SaidBy failed.old failed.new K.written out.old out.new result) }
+        ensures front { ForCall self.old (F.told folder.old) moment (request_of command.now) (FrontBy K.written out.old out.new) }
         ensures failed { FailsWhereItRose failed.old failed.new (K.faults out.old) (K.faults out.new) }
         ensures quiet { IfOk result (λ answer. IsRefused answer → Stays (F.told folder.old) (F.told folder.new)) }
-        ensures spares { OnErr result (SparesRefused (HoldsState self.old) (F.told folder.old) (F.told folder.new) moment (request_of command.now)) }
+        ensures spares { ForCall self.old (F.told folder.old) moment (request_of command.now) (SparedBy (F.told folder.new) result) }
         ensures idle { ForKept (HoldsState self.old) (F.told folder.old) (λ state. FlushesClean state (request_of command.now) → Stays (F.told folder.old) (F.told folder.new)) }
         ensures notes { self.new.notes ≡ self.old.notes }
         ensures mark { self.new.mark ≡ self.old.mark }
         ensures is_open { OnOk result (ForSome (F.told folder.new).files (IsOpen self.new.files)) }
         ensures damaged { IfDamaged result (IsFailedCheck self.new.files (F.told folder.new)) }
-        ensures untold { ForSome (F.told folder.old).files (KeepsAny self.old) → IfDamaged result (λ _. (F.told folder.old).files ≡ None) }
+        ensures untold { UndamagedWhere result (F.told folder.old) (KeepsAny self.old) }
         ensures later { F.faults folder.old ≤ F.faults folder.new }
         ensures printed_later { GoesOn K.is K.faults out.old out.new }
         ensures device { IfDevice result (Rises (F.faults folder.old) (F.faults folder.new)) }
@@ -219,19 +219,19 @@ impl Cache {
     ) -> Result<Answer, Fault>
         requires is_open { ForSome (F.told folder.old).files (IsOpen self.old.files) }
         requires on_sparse { IsOnSparse (request_of command.now) }
-        ensures does { IfOk result (λ answer. Does (HoldsState self.old) (HoldsState self.new) (F.told folder.old) (F.told folder.new) moment (request_of command.now) answer) }
-        ensures stops { MayStopAtEach (HoldsState self.old) (F.told folder.old) (F.told folder.new) moment (request_of command.now) }
-        ensures says { OnOk result (SaysEvicted self.old (F.told folder.old) moment (request_of command.now) failed.old failed.new (K.written out.old) (K.written out.new)) }
-        ensures front { SaysPrefix (HoldsState self.old) (F.told folder.old) moment (request_of command.now) (K.written out.old) (K.written out.new) }
+        ensures does { ForCall self.old (F.told folder.old) moment (request_of command.now) (DoneBy self.new (F.told folder.new) result) }
+        ensures stops { ForCall self.old (F.told folder.old) moment (request_of command.now) (StopsBy (F.told folder.new)) }
+        ensures says { ForCall self.old (F.told folder.old) moment (request_of command.now) (SaidBy failed.old failed.new K.written out.old out.new result) }
+        ensures front { ForCall self.old (F.told folder.old) moment (request_of command.now) (FrontBy K.written out.old out.new) }
         ensures failed { FailsWhereItRose failed.old failed.new (K.faults out.old) (K.faults out.new) }
         ensures quiet { IfOk result (λ answer. IsRefused answer → Stays (F.told folder.old) (F.told folder.new)) }
-        ensures spares { OnErr result (SparesRefused (HoldsState self.old) (F.told folder.old) (F.told folder.new) moment (request_of command.now)) }
+        ensures spares { ForCall self.old (F.told folder.old) moment (request_of command.now) (SparedBy (F.told folder.new) result) }
         ensures idle { ForKept (HoldsState self.old) (F.told folder.old) (λ state. FlushesClean state (request_of command.now) → Stays (F.told folder.old) (F.told folder.new)) }
         ensures notes { self.new.notes ≡ self.old.notes }
         ensures mark { self.new.mark ≡ self.old.mark }
         ensures is_open { OnOk result (ForSome (F.told folder.new).files (IsOpen self.new.files)) }
         ensures damaged { IfDamaged result (IsFailedCheck self.new.files (F.told folder.new)) }
-        ensures untold { ForSome (F.told folder.old).files (KeepsAny self.old) → IfDamaged result (λ _. (F.told folder.old).files ≡ None) }
+        ensures untold { UndamagedWhere result (F.told folder.old) (KeepsAny self.old) }
         ensures later { F.faults folder.old ≤ F.faults folder.new }
         ensures printed_later { GoesOn K.is K.faults out.old out.new }
         ensures device { IfDevice result (Rises (F.faults folder.old) (F.faults folder.new)) }

@@ -1,17 +1,15 @@
 // The command Trim.
-ghost use Rattle.std.specs.Prelude.{◌≡◌, ℕ, IfOk, None, OnOk};
+ghost use Rattle.std.specs.Prelude.{◌≡◌, ℕ, IfOk};
 ghost use Rattle.std.specs.Option.{ForSome};
 ghost use Rattle.spec_image.specs.Told.{MayWrite};
 ghost use Rattle.blk_io.specs.Faults.{IfDamaged, IfDevice};
 ghost use Rattle.blk_io.specs.Streams.{GoesOn};
 ghost use Rattle.blk_model.specs.Request.{to_trim};
 ghost use Rattle.blk_disk.specs.Open.{IsOpen};
-ghost use Rattle.law_state.specs.Commands.{Does, MayStopAtEach};
 ghost use Rattle.blk_object.specs.FailedChecks.{IsFailedCheck};
-ghost use Rattle.blk_cache.specs.CacheKeeping.{HoldsState};
-ghost use Rattle.blk_cache.specs.CommandClauses.{IsRefused, KeepsAny};
+ghost use Rattle.blk_cache.specs.CommandClauses.{DoneBy, ForCall, IsRefused, KeepsAny, StopsBy, UndamagedWhere};
 ghost use Rattle.blk_evict.specs.RoomPrinting.{FailsWhereItRose};
-ghost use Rattle.blk_cache.specs.Stepping.{SaysEvicted, SaysPrefix};
+ghost use Rattle.blk_cache.specs.Stepping.{FrontBy, SaidBy};
 
 use crate::cache::Cache;
 use crate::covered::Covered;
@@ -32,12 +30,12 @@ impl Cache {
         bytes: u64,
     ) -> Result<Answer, Fault>
         requires is_open { ForSome (F.told folder.old).files (IsOpen self.old.files) }
-        ensures does { (moment : ℕ) → IfOk result (λ answer. Does (HoldsState self.old) (HoldsState self.new) (F.told folder.old) (F.told folder.new) moment (to_trim bytes) answer) }
-        ensures stops { (moment : ℕ) → MayStopAtEach (HoldsState self.old) (F.told folder.old) (F.told folder.new) moment (to_trim bytes) }
+        ensures does { (moment : ℕ) → ForCall self.old (F.told folder.old) moment (to_trim bytes) (DoneBy self.new (F.told folder.new) result) }
+        ensures stops { (moment : ℕ) → ForCall self.old (F.told folder.old) moment (to_trim bytes) (StopsBy (F.told folder.new)) }
 
         // What it evicts is printed, and on any answer a prefix of that.
-        ensures says { (moment : ℕ) → OnOk result (SaysEvicted self.old (F.told folder.old) moment (to_trim bytes) failed.old failed.new (K.written out.old) (K.written out.new)) }
-        ensures front { (moment : ℕ) → SaysPrefix (HoldsState self.old) (F.told folder.old) moment (to_trim bytes) (K.written out.old) (K.written out.new) }
+        ensures says { (moment : ℕ) → ForCall self.old (F.told folder.old) moment (to_trim bytes) (SaidBy failed.old failed.new K.written out.old out.new result) }
+        ensures front { (moment : ℕ) → ForCall self.old (F.told folder.old) moment (to_trim bytes) (FrontBy K.written out.old out.new) }
         ensures fails { FailsWhereItRose failed.old failed.new (K.faults out.old) (K.faults out.new) }
 
         ensures passes { IfOk result (λ given. IsRefused given → ⊥) }
@@ -49,7 +47,7 @@ impl Cache {
         ensures damaged { IfDamaged result (IsFailedCheck self.new.files (F.told folder.new)) }
 
         // An observable folder reports no corruption where the cache keeps a state.
-        ensures untold { ForSome (F.told folder.old).files (KeepsAny self.old) → IfDamaged result (λ _. (F.told folder.old).files ≡ None) }
+        ensures untold { UndamagedWhere result (F.told folder.old) (KeepsAny self.old) }
         ensures writes { MayWrite F.told F.faults folder.old folder.new (IfDevice result) }
         ensures sink_later { GoesOn K.is K.faults out.old out.new }
     {

@@ -1,5 +1,5 @@
 // The command Write.
-ghost use Rattle.std.specs.Prelude.{All, ◌≡◌, ◌≤◌, ◌<◌, ◌+◌, ◌-◌, ◌^◌, IfOk, IfSome, IsTrue, None, Ok, OnOk, false, length, true, ℕ, Bool, OnErr};
+ghost use Rattle.std.specs.Prelude.{All, ◌≡◌, ◌≤◌, ◌<◌, ◌+◌, ◌-◌, ◌^◌, IfOk, IfSome, IsTrue, None, Ok, OnOk, false, length, true, ℕ, Bool};
 ghost use Rattle.std.specs.Option.{ForSome};
 ghost use Rattle.spec_image.specs.Told.{Passes, Rises, Stays, MayWrite, ReadsOnly};
 ghost use Rattle.blk_io.specs.Faults.{IfDamaged, IfDevice};
@@ -14,14 +14,14 @@ ghost use Rattle.blk_disk.specs.Tables.{is_node_among};
 ghost use Rattle.blk_lru.specs.Lists.{IsListed};
 ghost use Rattle.blk_stream.specs.Writing.{size_after};
 ghost use Rattle.law_state.specs.Changes.{Finds};
-ghost use Rattle.law_state.specs.Commands.{Does, IsDone, MayStop, MayStopAtEach};
+ghost use Rattle.law_state.specs.Commands.{IsDone, MayStop};
 ghost use Rattle.blk_object.specs.FailedChecks.{IsFailedCheck};
 ghost use Rattle.blk_cache.specs.declared.asking.Asked.TheVariants as asked;
 ghost use Rattle.blk_cache.specs.CacheKeeping.{HoldsState};
-ghost use Rattle.blk_cache.specs.CommandClauses.{IsRefused, KeepsAny, SparesRefused};
+ghost use Rattle.blk_cache.specs.CommandClauses.{DoneBy, IsRefused, KeepsAny, SparedBy, StopsBy, UndamagedWhere};
 ghost use Rattle.blk_evict.specs.RoomPrinting.{FailsWhereItRose};
-ghost use Rattle.blk_cache.specs.Stepping.{SaysEvicted, SaysPrefix};
-ghost use Rattle.blk_cache.specs.Writing.{CanGetFor, CountsRise, ForEachToUse, IsAskedToWrite, IsNotRefusedEarly, IsReadyToWriteFor, IsReadyToWriteForSome, IsUsedAndCounted, KeepsToWriteFor, early_refusal, early_write_refusal, state_written, write_of};
+ghost use Rattle.blk_cache.specs.Stepping.{FrontBy, SaidBy};
+ghost use Rattle.blk_cache.specs.Writing.{CanGetFor, CountsRise, ForEachToUse, ForWrite, IsAskedToWrite, IsNotRefusedEarly, IsReadyToWriteFor, IsReadyToWriteForSome, IsUsedAndCounted, KeepsToWriteFor, early_refusal, early_write_refusal, state_written, write_of};
 
 use crate::asking::{Asked, NamedStream};
 use crate::cache::Cache;
@@ -66,12 +66,12 @@ impl Cache {
         request: &WriteRequest,
     ) -> Result<Answer, Fault>
         requires is_open { ForSome (F.told folder.old).files (IsOpen self.old.files) }
-        ensures does { IfOk result (λ answer. Does (HoldsState self.old) (HoldsState self.new) (F.told folder.old) (F.told folder.new) request.now.moment (write_of request.now) answer) }
-        ensures stops { MayStopAtEach (HoldsState self.old) (F.told folder.old) (F.told folder.new) request.now.moment (write_of request.now) }
+        ensures does { ForWrite self.old (F.told folder.old) request.now (DoneBy self.new (F.told folder.new) result) }
+        ensures stops { ForWrite self.old (F.told folder.old) request.now (StopsBy (F.told folder.new)) }
 
         // What it evicts is printed, and on any answer a prefix of that.
-        ensures says { OnOk result (SaysEvicted self.old (F.told folder.old) request.now.moment (write_of request.now) failed.old failed.new (K.written out.old) (K.written out.new)) }
-        ensures front { SaysPrefix (HoldsState self.old) (F.told folder.old) request.now.moment (write_of request.now) (K.written out.old) (K.written out.new) }
+        ensures says { ForWrite self.old (F.told folder.old) request.now (SaidBy failed.old failed.new K.written out.old out.new result) }
+        ensures front { ForWrite self.old (F.told folder.old) request.now (FrontBy K.written out.old out.new) }
         ensures fails { FailsWhereItRose failed.old failed.new (K.faults out.old) (K.faults out.new) }
 
         // A refusal that the handles, the limits, the stream and the length alone decide is given on every folder, and a refusal does nothing.
@@ -79,14 +79,14 @@ impl Cache {
         ensures quiet { IfOk result (λ answer. IsRefused answer → Stays (F.told folder.old) (F.told folder.new)) }
         ensures unchanged { IfOk result (λ answer. IsRefused answer → self.new ≡ self.old) }
 
-        ensures spares { OnErr result (SparesRefused (HoldsState self.old) (F.told folder.old) (F.told folder.new) request.now.moment (write_of request.now)) }
+        ensures spares { ForWrite self.old (F.told folder.old) request.now (SparedBy (F.told folder.new) result) }
         ensures is_open { OnOk result (ForSome (F.told folder.new).files (IsOpen self.new.files)) }
         ensures notes { self.new.notes ≡ self.old.notes }
         ensures mark { self.new.mark ≡ self.old.mark }
 
         // Corruption is a check that fails on what is read here; nothing is written after it. An observable folder gives none where the cache keeps a state.
         ensures damaged { IfDamaged result (IsFailedCheck self.new.files (F.told folder.new)) }
-        ensures untold { ForSome (F.told folder.old).files (KeepsAny self.old) → IfDamaged result (λ _. (F.told folder.old).files ≡ None) }
+        ensures untold { UndamagedWhere result (F.told folder.old) (KeepsAny self.old) }
         ensures writes { MayWrite F.told F.faults folder.old folder.new (IfDevice result) }
         ensures sink_later { GoesOn K.is K.faults out.old out.new }
     {
@@ -128,7 +128,7 @@ impl Cache {
         ensures mark { self.new.mark ≡ self.old.mark }
         ensures is_open { OnOk result (ForSome (F.told folder.new).files (IsOpen self.new.files)) }
         ensures damaged { IfDamaged result (IsFailedCheck self.new.files (F.told folder.new)) }
-        ensures untold { ForSome (F.told folder.old).files (IsReadyToWriteForSome self.old request.now size) → IfDamaged result (λ _. (F.told folder.old).files ≡ None) }
+        ensures untold { UndamagedWhere result (F.told folder.old) (IsReadyToWriteForSome self.old request.now size) }
         ensures writes { MayWrite F.told F.faults folder.old folder.new (IfDevice result) }
     {
         self.set_dirty(folder, request.handle, true)?;
@@ -157,7 +157,7 @@ impl Cache {
         ensures mark { self.new.mark ≡ self.old.mark }
         ensures is_open { OnOk result (ForSome (F.told folder.new).files (IsOpen self.new.files)) }
         ensures damaged { IfDamaged result (IsFailedCheck self.new.files (F.told folder.new)) }
-        ensures untold { ForSome (F.told folder.old).files (KeepsToWriteFor self.old request.now size) → IfDamaged result (λ _. (F.told folder.old).files ≡ None) }
+        ensures untold { UndamagedWhere result (F.told folder.old) (KeepsToWriteFor self.old request.now size) }
         ensures writes { MayWrite F.told F.faults folder.old folder.new (IfDevice result) }
     {
         let Some(object) = self.handles.object(request.handle) else {
@@ -204,7 +204,7 @@ impl Cache {
 
         // Corruption is a check that fails on what is read here. An observable folder gives none where the cache keeps a state.
         ensures damaged { IfDamaged result (IsFailedCheck self.now.files (F.told folder.new)) }
-        ensures untold { ForSome (F.told folder.old).files (KeepsAny self.now) → IfDamaged result (λ _. (F.told folder.old).files ≡ None) }
+        ensures untold { UndamagedWhere result (F.told folder.old) (KeepsAny self.now) }
     {
         if let Some(why) = self.refuses_length(handle, stream, offset, bytes.len() as u64) {
             return Ok(Asked::Refused(why));
@@ -256,7 +256,7 @@ fn use_and_count<F: Folder>(
 
     ensures is_open { ForSome (F.told folder.new).files (IsOpen files.now) }
     ensures damaged { IfDamaged result (IsFailedCheck files.now (F.told folder.new)) }
-    ensures untold { ForSome (F.told folder.old).files (λ image. object.now.doomed ≡ false → IsListed object.now.node image) → IfDamaged result (λ _. (F.told folder.old).files ≡ None) }
+    ensures untold { UndamagedWhere result (F.told folder.old) (λ image. object.now.doomed ≡ false → IsListed object.now.node image) }
     ensures silent { (F.told folder.old).files ≡ None → (F.told folder.new).files ≡ None }
     ensures later { F.faults folder.old ≤ F.faults folder.new }
     ensures device { IfDevice result (Rises (F.faults folder.old) (F.faults folder.new)) }
