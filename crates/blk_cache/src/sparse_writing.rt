@@ -13,7 +13,7 @@ ghost use Rattle.blk_object.specs.FailedChecks.{IsFailedCheck};
 ghost use Rattle.blk_sparse.specs.SparseWrites.{signature_to};
 ghost use Rattle.blk_cache.specs.CommandClauses.{DoneBy, IsRefused, KeepsAny, SparedBy, StopsBy, UndamagedBy, UndamagedWhere};
 ghost use Rattle.blk_cache.specs.Listing.{OnlyRoomChanges};
-ghost use Rattle.blk_cache.specs.SparseTargets.{ForEmptyWrites, WhereAsks, WhereNamed, WhereRoom, early_store_refusal};
+ghost use Rattle.blk_cache.specs.SparseTargets.{WhereAsks, WhereNamed, WhereRoom, early_store_refusal};
 ghost use Rattle.blk_cache.specs.SparseWriting.{ForSparseWrite};
 ghost use Rattle.blk_evict.specs.RoomPrinting.{FailsWhereItRose};
 ghost use Rattle.blk_cache.specs.Stepping.{FrontBy, SaidBy};
@@ -22,7 +22,6 @@ use crate::cache::Cache;
 use crate::sparse_rise::Rise;
 use crate::sparse_target::AskedTarget;
 use blk_io::{Fault, Folder, Sink};
-use blk_lru::touch;
 use blk_model::{Answer, Refusal};
 use blk_sparse::Target;
 
@@ -284,26 +283,5 @@ impl Cache {
         ensures few { self.now.bytes < 2 ^ 64 }
     {
         self.bytes
-    }
-
-    // Does a SparseWrite of no bytes: the main item of its object is put in front of the LRU list.
-    fn use_target<F: Folder>(
-        &self,
-        folder: &mut F,
-        target: &Target,
-        moment: u64,
-    ) -> Result<Answer, Fault>
-        requires stands { IsTrue (is_node_among self.now.files target.now.parent.node) }
-        requires is_open { ForSome (F.told folder.old).files (IsOpen self.now.files) }
-        ensures does { ForEmptyWrites self.now (F.told folder.old) moment target.now (DoneBy self.now (F.told folder.new) result) }
-        ensures stops { ForEmptyWrites self.now (F.told folder.old) moment target.now (StopsBy (F.told folder.new)) }
-        ensures wrote { IfOk result (λ given. given ≡ answer.Wrote 0) }
-        ensures is_open { ForSome (F.told folder.new).files (IsOpen self.now.files) }
-        ensures damaged { IfDamaged result (IsFailedCheck self.now.files (F.told folder.new)) }
-        ensures untold { ForEmptyWrites self.now (F.told folder.old) moment target.now (UndamagedBy result) }
-        ensures writes { MayWrite F.told F.faults folder.old folder.new (IfDevice result) }
-    {
-        touch(folder, &self.files, target.parent.node, moment)?;
-        Ok(Answer::Wrote(0))
     }
 }
