@@ -30,6 +30,10 @@ abbrev pub AreCountedMore : (entries charge : ℕ) → (from image : Image) → 
 AreCountedMore entries charge from image =
     AreCountersWritten ((num_entries_of (byte from Index) + entries) % 2 ^ 32) ((num_bytes64_of (byte from Index) + charge) % 2 ^ 64) ((sizes_of (byte from Index) 0 + entries) % 2 ^ 32) from image
 
+-- the counters of the index were written: those that were read, raised, each modulo its width, by one item and its cost
+abbrev pub AreWrittenRaised : Counters → (charge : ℕ) → (from image : Image) → Type 0
+AreWrittenRaised counters charge from image = AreCountersWritten ((counters.entries + 1) % 2 ^ 32) ((counters.bytes + charge) % 2 ^ 64) ((counters.size + 1) % 2 ^ 32) from image
+
 -- state `after` lists one item less than `state`, and the costs of its items sum to `charge` less
 pub record IsOneItemLess (state after : State) (layout now : Layout) (charge : ℕ) : Type 0 where
   pub items : length after.uses + 1 ≡ length state.uses

@@ -16,6 +16,10 @@ use Rattle.law_state.specs.Changes.{Finds, KeepsWith, RemovesAllocation, Removes
 use Rattle.law_state.specs.Keeping.{KeepsUncounted}
 use Rattle.law_state.specs.PartlyOut.{KeepsPartlyOut}
 use Rattle.law_state.specs.PartlyOutStops.{LeavesOtherKeys}
+use Rattle.std.specs.Option.{ForSome}
+use Rattle.spec_image.specs.Told.{Told}
+use Rattle.blk_object.specs.Calls.{LeavesWhere, StopsWhere}
+use Rattle.spec_format.specs.BlockFiles.{HasSoundHeaders, stands_in}
 
 -- What may be freed.
 
@@ -99,3 +103,17 @@ GoingWordsFindTheSame = (words : List ℕ) (from image : Image) → AreGoing wor
 abbrev pub GoingWordsFindDoomed : Type 0
 GoingWordsFindDoomed = (state : State) (layout : Layout) (number : ℕ) (object : Object) (keep : Item → Bool) (chains : ℕ → List ℕ) (words unlinked : List ℕ) (from image : Image) → object_at state number ≡ Some object → LeavesOtherKeys object.key keep
     → KeepsPartlyOut state layout keep chains (words ++ unlinked) from → AreGoing words from image → Finds (rest (doomed number state (Some object))) image
+
+-- The contract of the calls.
+
+-- the addresses are freed, if they may be
+abbrev pub FreesWords : (old new : Told) → List ℕ → Type 0
+FreesWords old new words = LeavesWhere old new (AreFreeable words) (Removes words)
+
+-- after each single write a prefix of the addresses is freed, and the next one perhaps partly, if they may be
+abbrev pub StopsFreeing : (old new : Told) → List ℕ → Type 0
+StopsFreeing old new words = StopsWhere old new (AreFreeable words) (AreGoing words)
+
+-- address w is freed, if it stands in a folder whose block files have well-formed headers
+abbrev pub FreesStanding : (old new : Told) → ℕ → Type 0
+FreesStanding old new w = ForSome old.files (λ from. HasSoundHeaders from → stands_in from w ≡ true → ForSome new.files (RemovesPlace w from))

@@ -4,6 +4,7 @@ pub mod KeptLists
 pub mod KeptMarks
 pub mod KeptEntries
 pub mod KeptChains
+pub mod Calls
 pub mod Making
 pub mod Removing
 pub mod Freeing
@@ -20,6 +21,7 @@ pub mod UnlinkedLoads
 pub mod RemovingFound
 pub mod Dooming
 pub mod FindingOut
+pub mod RemovalCalls
 pub mod Writing
 pub mod WritingPlaces
 pub mod Ending

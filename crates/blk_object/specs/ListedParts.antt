@@ -1,7 +1,7 @@
 -- The parts of a key in the LRU list, and the search for the first of them.
 use Rattle.std.specs.Prelude.{◌≡◌, ℕ, ◌<◌, List, [], ◌∷◌, ◌++◌, Bool, Option, None, Some, Ok, false, filter, true, if◌then◌else◌}
 use Rattle.std.specs.List.{AllByRecursion}
-use Rattle.std.specs.Option.{option_map}
+use Rattle.std.specs.Option.{option_map, ForSome}
 use Rattle.std.specs.Str.{bytes_eq}
 use Rattle.spec_image.specs.Image.{Image}
 use Rattle.blk_model.specs.Items.{Item, main, part}
@@ -13,7 +13,7 @@ use Rattle.spec_format.specs.SparseIndex.{ParentIndex}
 use Rattle.spec_folder.specs.Entries.{IsParent, IsPart, IsPlain, Role}
 use Rattle.spec_folder.specs.Layout.{Layout, is_listed}
 use Rattle.spec_folder.specs.Loads.{Loaded, Rule, load}
-use Rattle.spec_folder.specs.View.{store_of}
+use Rattle.spec_folder.specs.View.{store_of, node_at}
 use Rattle.blk_disk.specs.declared.tables.BlockFiles.{BlockFiles}
 use Rattle.blk_disk.specs.Tables.{is_node_among, stands_among}
 use Rattle.law_state.specs.PartlyOut.{KeepsPartlyOut}
@@ -26,6 +26,7 @@ use Rattle.blk_entry.specs.Keys.{key_bytes}
 use Rattle.blk_object.specs.NextItems.{LiesNext}
 use Rattle.blk_object.specs.RemovingNext.{CountsLeft}
 use Rattle.blk_object.specs.declared.listed_parts.ListedPart.{ListedPart}
+use Rattle.spec_image.specs.Told.{Told}
 
 -- What is read at a node.
 
@@ -33,6 +34,14 @@ use Rattle.blk_object.specs.declared.listed_parts.ListedPart.{ListedPart}
 pub record LoadsAt (node : ℕ) (loaded : Loaded) (image : Image) : Type 0 where
   pub rule : Rule
   pub loads : load (store_of image) rule node ≡ Ok loaded
+
+-- P holds of whatever the folder loads at the node
+abbrev pub ForLoadedAt : Told → (node : ℕ) → (Loaded → Type 0) → Type 0
+ForLoadedAt told node P = ForSome told.files (λ image. (loaded : Loaded) → LoadsAt node loaded image → P loaded)
+
+-- something is loaded at the node
+abbrev pub LoadsSomeAt : (node : ℕ) → Image → Type 0
+LoadsSomeAt node image = (loaded : Loaded) × LoadsAt node loaded image
 
 -- the part's number, where a key reads as the name of a part of `key`
 abbrev pub number_said : List ℕ → Option Name → Option ℕ
@@ -52,6 +61,10 @@ SaysPart entry key number image = number_said key (read_name (key_bytes image en
 -- the part of `key` that the node has, by what is loaded there, or None where it has none
 abbrev pub part_loaded : List ℕ → ℕ → Loaded → Option ListedPart
 part_loaded key node loaded = option_map (λ number. record { node = node; entry = loaded.contents; number = number }) (part_number key loaded.role)
+
+-- the record of the part is the one that its node names
+abbrev pub IsAtItsNode : Told → ListedPart → Type 0
+IsAtItsNode told part = ForSome told.files (λ image. part.entry ≡ (node_at image part.node).contents)
 
 -- the node and the record of a part that was found are valid, and its number is one that a part may have
 pub record IsPartThere (files : BlockFiles) (found : ListedPart) : Type 0 where
@@ -98,6 +111,10 @@ ForEachSearch from image P =
     (state : State) (layout : Layout) (keep : Item → Bool) (chains : ℕ → List ℕ) (unlinked : List ℕ) (items : List Item)
     → KeepsPartlyOut state layout keep chains unlinked image → AreSearched layout from (filter keep state.uses) items
     → P layout items
+
+-- P holds of each such search of the list of the folder
+abbrev pub ForSearch : Told → (from : Option ℕ) → (Layout → List Item → Type 0) → Type 0
+ForSearch told from P = ForSome told.files (λ image. ForEachSearch from image P)
 
 -- the node of the first of the items, or None where there are none
 abbrev pub first_node : Layout → List Item → Option ℕ

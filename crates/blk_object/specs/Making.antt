@@ -1,6 +1,6 @@
 -- A new object: the space and the addresses for its entry, the entry, and the state with it.
-use Rattle.std.specs.Prelude.{◌≡◌, ℕ, ◌+◌, ◌<◌, ◌≤◌, List, [], ◌∷◌, ◌++◌, length, Option, None, Some, false, true}
-use Rattle.spec_image.specs.Image.{Image, Index, byte}
+use Rattle.std.specs.Prelude.{◌≡◌, ℕ, ◌+◌, ◌<◌, ◌≤◌, List, [], ◌∷◌, ◌++◌, length, Option, None, Some, false, true, IsTrue}
+use Rattle.spec_image.specs.Image.{Image, Index, byte, External, length_of}
 use Rattle.blk_model.specs.Effects.{created}
 use Rattle.blk_model.specs.Holding.{owner, rest}
 use Rattle.blk_model.specs.Items.{main}
@@ -26,6 +26,10 @@ use Rattle.law_state.specs.Keeping.{Keeps, KeepsUncounted}
 use Rattle.law_state.specs.NewEntryLaws.{IsNewEntryOf}
 use Rattle.blk_object.specs.declared.making.Made.{Made}
 use Rattle.blk_object.specs.declared.making_places.Places.{Places}
+use Rattle.spec_format.specs.Address.{block_count, blocks_256, external, external_number, is_address, kind_of}
+use Rattle.blk_disk.specs.declared.tables.BlockFiles.{BlockFiles}
+use Rattle.blk_disk.specs.Tables.{stands_among}
+use Rattle.spec_format.specs.Storage as storage
 
 -- Space.
 
@@ -49,6 +53,14 @@ long_word (Some w) = w ∷ []
 -- the addresses of a new entry: of its node, its record, and its long key if it has one
 abbrev pub words_of_places : Places → List ℕ
 words_of_places places = places.node ∷ places.entry ∷ long_word places.long_key
+
+-- the address names the blocks of a record with a key of this length, which are valid
+abbrev pub IsRecordPlace : BlockFiles → (key_len entry : ℕ) → Type 0
+IsRecordPlace files key_len entry = (kind_of entry ≡ blocks_256) × (block_count entry ≡ storage.entry_blocks key_len) × IsTrue (is_address entry) × IsTrue (stands_among files entry)
+
+-- if the address names an external file, this has so many bytes
+abbrev pub IsLongIfExternal : (w size : ℕ) → Image → Type 0
+IsLongIfExternal w size image = kind_of w ≡ external → length_of image (External (external_number w)) ≡ size
 
 -- the entry of a plain object at these addresses, with a dirty flag and the next record of its chain
 abbrev pub new_entry : Places → ℕ → ℕ → NewEntry
@@ -129,6 +141,10 @@ abbrev pub KeepsTimes : (entry node : ℕ) → Image → Image → Type 0
 KeepsTimes entry node from image = (moment : ℕ) → HasTimes entry node moment from → HasTimes entry node moment image
 
 -- The new object.
+
+-- the session of the folder has this number
+abbrev pub IsOfSession : (mark : ℕ) → Image → Type 0
+IsOfSession mark image = this_id_of (byte image Index) ≡ mark
 
 -- the folder keeps the state with the new object, whose entry has the record and the node of `made`; its dirty flag is the number of the session
 pub record HasNewObject (state : State) (layout : Layout) (handle : ℕ) (key : List ℕ) (made : Made) (from image : Image) : Type 0 where

@@ -11,6 +11,8 @@ use Rattle.blk_disk.specs.declared.tables.BlockFiles.{BlockFiles}
 use Rattle.blk_disk.specs.Tables.{stands_among}
 use Rattle.law_state.specs.Keeping.{KeepsUncounted}
 use Rattle.law_state.specs.PartlyOut.{KeepsPartlyOut}
+use Rattle.std.specs.Option.{ForSome}
+use Rattle.spec_image.specs.Told.{Told}
 
 -- word w is the address of an external file, or of valid blocks
 unfoldable pub is_there : BlockFiles → ℕ → Bool
@@ -22,6 +24,14 @@ pub record LoadsWith (entry : ℕ) (loaded : Loaded) (image : Image) : Type 0 wh
   pub node : ℕ
   pub loads : load (store_of image) rule node ≡ Ok loaded
   pub contents : loaded.contents ≡ entry
+
+-- P holds of whatever the folder loads that has its record at address `entry`
+abbrev pub ForLoaded : Told → (entry : ℕ) → (Loaded → Type 0) → Type 0
+ForLoaded told entry P = ForSome told.files (λ image. (loaded : Loaded) → LoadsWith entry loaded image → P loaded)
+
+-- something is loaded that has its record at address `entry`
+abbrev pub LoadsSomeWith : (entry : ℕ) → Image → Type 0
+LoadsSomeWith entry image = (loaded : Loaded) × LoadsWith entry loaded image
 
 -- where a folder keeps a state, what its layout has at a node is loaded there
 abbrev pub KeptNodesLoad : Type 0

@@ -17,6 +17,9 @@ use Rattle.law_state.specs.PlainRemovals.{IsRemoved, IsRemoving}
 use Rattle.law_state.specs.RemovalLaws.{IsRemovalDone, chains_without}
 use Rattle.law_state.specs.WordStops.{IsMidRemoval}
 use Rattle.blk_object.specs.KeptLists.{IsAmidList}
+use Rattle.spec_image.specs.Told.{Told}
+use Rattle.blk_chain.specs.declared.found.Found.{Found}
+use Rattle.blk_object.specs.Calls.{LeavesWhere, StopsWhere}
 
 -- The contract of the call.
 
@@ -48,6 +51,14 @@ pub record IsBeingUnlinked (node entry : ℕ) (before : Option ℕ) (from image 
 -- a prefix of the writes of the removal from the LRU list is made, or that is done and the record is being unlinked
 abbrev pub IsGoingOut : ℕ → ℕ → Option ℕ → Image → Image → Type 0
 IsGoingOut node entry before from image = IsPartly from (writes_of remove node (list_of from)) image ⊎ IsBeingUnlinked node entry before from image
+
+-- the node is taken out of the LRU list, and the record that was found out of its chain, if they may be
+abbrev pub TakesOut : (old new : Told) → (node : ℕ) → Found → Type 0
+TakesOut old new node found = LeavesWhere old new (MayGoOut node found.entry found.before) (IsTakenOut node found.entry found.before)
+
+-- before each step and after the last they are going out, if they may
+abbrev pub StopsTakingOut : (old new : Told) → (node : ℕ) → Found → Type 0
+StopsTakingOut old new node found = StopsWhere old new (MayGoOut node found.entry found.before) (IsGoingOut node found.entry found.before)
 
 -- The effect on a state that is kept.
 

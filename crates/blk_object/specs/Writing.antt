@@ -1,5 +1,5 @@
 -- A stream of an open object is written: which objects may have it, and what state is kept then.
-use Rattle.std.specs.Prelude.{◌≡◌, ℕ, ◌+◌, ◌<◌, ◌≤◌, ◌%◌, ◌^◌, List, length, Bool, true, false, Some, if◌then◌else◌}
+use Rattle.std.specs.Prelude.{◌≡◌, ℕ, ◌+◌, ◌<◌, ◌≤◌, ◌%◌, ◌^◌, List, length, Bool, true, false, Some, if◌then◌else◌, ◌⊎◌}
 use Rattle.spec_image.specs.Image.{Image, Index, byte}
 use Rattle.blk_model.specs.Effects.{stream_after, stream_of, with_slot}
 use Rattle.blk_model.specs.Items.{Item, PartValue, is_sparse, main, part, part_row}
@@ -10,20 +10,24 @@ use Rattle.spec_format.specs.Address.{is_address}
 use Rattle.spec_format.specs.Headers.{num_bytes64_of, num_bytes64_place}
 use Rattle.spec_format.specs.Sealed.{RecordChecks}
 use Rattle.law_folder.specs.IndexWrites.{IsIndexLong}
-use Rattle.spec_folder.specs.Entries.{Role, part_role, stream}
+use Rattle.spec_folder.specs.Entries.{Role, part_role, stream, most_stream_bytes}
 use Rattle.spec_folder.specs.Found.{row_with}
 use Rattle.spec_folder.specs.Layout.{Layout, is_listed}
 use Rattle.spec_folder.specs.Loads.{Loaded}
-use Rattle.blk_entry.specs.Keys.{IsInFile}
+use Rattle.blk_entry.specs.Keys.{IsInFile, IsDamageAt}
 use Rattle.blk_stream.specs.Loading.{stored_streams_with}
-use Rattle.blk_stream.specs.Streams.{address_word, size_word}
-use Rattle.law_state.specs.Changes.{SameCounters, SameSession}
+use Rattle.blk_stream.specs.Streams.{address_word, size_word, address_place, size_place}
+use Rattle.law_state.specs.Changes.{SameCounters, SameSession, Finds}
 use Rattle.law_state.specs.CommandEnds.{after_write}
 use Rattle.law_state.specs.CounterLaws.{charged}
 use Rattle.law_state.specs.Keeping.{CountsItems, Keeps, KeepsUncounted}
 use Rattle.law_state.specs.ListLaws.{with_used}
 use Rattle.law_state.specs.ObjectLaws.{layout_after}
 use Rattle.law_state.specs.PartStates.{with_object, with_value}
+use Rattle.std.specs.Option.{ForSome}
+use Rattle.spec_image.specs.Told.{Passes, Told}
+use Rattle.blk_model.specs.Holding.{rest}
+use Rattle.blk_io.specs.declared.fault.Fault.{Fault}
 
 -- Preconditions.
 
@@ -53,6 +57,14 @@ abbrev pub ForEachUnsettled : (entry at offset : ℕ) (cut : Bool) (bytes : List
 ForEachUnsettled entry at offset cut bytes from P =
     (state : State) (layout : Layout) (unlinked : List ℕ) (number : ℕ) (object : Object) (was : Loaded) → IsToBeWritten state layout unlinked number object was entry at offset cut bytes from
     → P state layout unlinked number object was
+
+-- the file that stream `at` lies in has all its bytes
+abbrev pub IsStreamThere : (entry at : ℕ) → Image → Type 0
+IsStreamThere entry at image = IsInFile (address_word image entry at) 0 (size_word image entry at) image
+
+-- the failed check of a stream whose bytes aren't there: of its size, if a stream can't have it, else of its address
+abbrev pub IsStreamDamage : (entry at size w : ℕ) → Fault → Type 0
+IsStreamDamage entry at size w fault = ((most_stream_bytes < size) × IsDamageAt entry (size_place at) size fault) ⊎ ((size ≤ most_stream_bytes) × IsDamageAt entry (address_place at) w fault)
 
 -- the record's checksum matches or is absent, and its stream `at`, unless it is empty, has an address; if that names an external file, this has all bytes of
 -- the stream
@@ -143,3 +155,40 @@ RisesAreCounted = (state after : State) (layout now : Layout) (unlinked : List �
 -- an access to an item doesn't change the sum of costs
 abbrev pub UsesLeaveTheRise : Type 0
 UsesLeaveTheRise = (state after : State) (layout now : Layout) (less more : ℕ) → (item : Item) → IsValidState after → is_listed after item ≡ true → IsRisen state after layout now less more → IsRisen state (with_used after item) layout now less more
+
+-- The contract of the write.
+
+-- P holds of each dirty object that the write may be of
+abbrev pub ForUnsettled : Told → (entry at offset : ℕ) (cut : Bool) (bytes : List ℕ) → (Image → State → Layout → List ℕ → ℕ → Object → Loaded → Type 0) → Type 0
+ForUnsettled told entry at offset cut bytes P = ForSome told.files (λ from. ForEachUnsettled entry at offset cut bytes from (P from))
+
+-- where there is a dirty object that the write may be of, Q holds
+abbrev pub WhereUnsettled : Told → (entry at offset : ℕ) (cut : Bool) (bytes : List ℕ) → (Image → Type 0) → Type 0
+WhereUnsettled told entry at offset cut bytes Q = ForUnsettled told entry at offset cut bytes (λ from state layout unlinked number object was. Q from)
+
+-- the folder keeps the state after the write, but for the counters
+abbrev pub WritesObject : (old new : Told) → (entry at offset : ℕ) (cut : Bool) (bytes : List ℕ) → Type 0
+WritesObject old new entry at offset cut bytes =
+    ForUnsettled old entry at offset cut bytes (λ from state layout unlinked number object was. ForSome new.files (IsWrittenUncounted state layout unlinked number object was at offset cut bytes from))
+
+-- at each step recovery gives the durable contents of the state before the write
+abbrev pub StopsWriting : (old new : Told) → Image → State → Layout → List ℕ → ℕ → Object → Loaded → Type 0
+StopsWriting old new from state layout unlinked number object was = Passes old new (Finds (rest state))
+
+-- P holds of each part of a dirty live object that the write may be of
+abbrev pub ForPartUnsettled : Told → (entry at offset : ℕ) (cut : Bool) (bytes : List ℕ) → (Image → State → Layout → List ℕ → ℕ → Object → (n : ℕ) → PartValue → Loaded → Role → Type 0) → Type 0
+ForPartUnsettled told entry at offset cut bytes P = ForSome told.files (λ from. ForEachPartUnsettled entry at offset cut bytes from (P from))
+
+-- where there is a part of a dirty live object that the write may be of, Q holds
+abbrev pub WherePartUnsettled : Told → (entry at offset : ℕ) (cut : Bool) (bytes : List ℕ) → (Image → Type 0) → Type 0
+WherePartUnsettled told entry at offset cut bytes Q = ForPartUnsettled told entry at offset cut bytes (λ from state layout unlinked number object n value was role. Q from)
+
+-- the folder keeps the state with the part's new value, but for the counters
+abbrev pub WritesPartStream : (old new : Told) → (entry at offset : ℕ) (cut : Bool) (bytes : List ℕ) → Type 0
+WritesPartStream old new entry at offset cut bytes =
+    ForPartUnsettled old entry at offset cut bytes (λ from state layout unlinked number object n value was role.
+        ForSome new.files (IsPartWrittenUncounted state layout unlinked number object n value was role at offset cut bytes from))
+
+-- at each step recovery gives the durable contents of the state before the write to a part
+abbrev pub StopsPartWriting : (old new : Told) → Image → State → Layout → List ℕ → ℕ → Object → (n : ℕ) → PartValue → Loaded → Role → Type 0
+StopsPartWriting old new from state layout unlinked number object n value was role = Passes old new (Finds (rest state))

@@ -1,5 +1,5 @@
 // The counters of the index: the number of listed items and the sum of their costs.
-ghost use Rattle.std.specs.Prelude.{◌≡◌, ◌<◌, ◌+◌, ◌/◌, ◌%◌, ◌^◌, [], None, IfOk, OnErr, OnOk};
+ghost use Rattle.std.specs.Prelude.{◌≡◌, ◌<◌, ◌+◌, ◌/◌, ◌%◌, ◌^◌, [], IfOk, OnErr, OnOk};
 ghost use Rattle.std.specs.Option.{ForSome};
 ghost use Rattle.spec_image.specs.Told.{Passes, MayWrite, ReadsOnly};
 ghost use Rattle.spec_format.specs.Headers.{HasWholeIndex, num_bytes64_place};
@@ -8,10 +8,11 @@ ghost use Rattle.blk_disk.specs.Open.{IsOpen};
 ghost use Rattle.law_folder.specs.IndexWrites.{IsIndexLong};
 ghost use Rattle.law_state.specs.Changes.{KeepsWith};
 ghost use Rattle.law_state.specs.CounterLaws.{AreCountersWritten};
-ghost use Rattle.blk_object.specs.Counters.{AreCountedLess, AreCountedMore, AreIndexCounters};
+ghost use Rattle.blk_object.specs.Counters.{AreCountedLess, AreCountedMore, AreIndexCounters, AreWrittenRaised};
 ghost use Rattle.blk_object.specs.FailedChecks.{IsFailedCheck, ReadsTooFew};
 ghost use Rattle.blk_object.specs.RemovingNext.{KeepsOut};
 ghost use Rattle.blk_object.specs.Writing.{IsRiseCounted};
+ghost use Rattle.blk_object.specs.Calls.{OpaqueIfDamaged, UndamagedWhere};
 
 use blk_disk::BlockFiles;
 use blk_index::{long, word};
@@ -34,7 +35,7 @@ pub(crate) fn read_counters<F: Folder>(folder: &mut F) -> Result<Counters, Fault
     ensures read { IfOk result (λ counters. ForSome (F.told folder.old).files (AreIndexCounters counters)) }
     ensures reads { ReadsOnly F.told F.faults folder.old folder.new (IfDevice result) }
     ensures damaged { IfDamaged result (ReadsTooFew (F.told folder.new)) }
-    ensures untold { ForSome (F.told folder.old).files HasWholeIndex → IfDamaged result (λ _. (F.told folder.old).files ≡ None) }
+    ensures untold { UndamagedWhere result (F.told folder.old) HasWholeIndex }
 {
     let entries = word(folder, IndexHead::NUM_ENTRIES)?;
     let bytes = long(folder, IndexHead::NUM_BYTES64)?;
@@ -54,7 +55,7 @@ pub(crate) fn count_entry<F: Folder>(
     charge: u64,
 ) -> Result<(), Failed>
     requires is_open { ForSome (F.told folder.old).files (IsOpen files.now) }
-    ensures written { OnOk result (ForSome (F.told folder.old).files (λ from. ForSome (F.told folder.new).files (AreCountersWritten ((counters.now.entries + 1) % 2 ^ 32) ((counters.now.bytes + charge) % 2 ^ 64) ((counters.now.size + 1) % 2 ^ 32) from))) }
+    ensures written { OnOk result (ForSome (F.told folder.old).files (λ from. ForSome (F.told folder.new).files (AreWrittenRaised counters.now charge from))) }
     ensures stops { ForSome (F.told folder.old).files (λ from. Passes (F.told folder.old) (F.told folder.new) (KeepsWith [] [] from)) }
     ensures is_open { ForSome (F.told folder.new).files (IsOpen files.now) }
     ensures writes { MayWrite F.told F.faults folder.old folder.new (OnErr result) }
@@ -73,7 +74,7 @@ pub fn count_less<F: Folder>(folder: &mut F, files: &BlockFiles, charge: u64) ->
     ensures stops_out { ForSome (F.told folder.old).files (λ from. Passes (F.told folder.old) (F.told folder.new) (KeepsOut from)) }
     ensures is_open { ForSome (F.told folder.new).files (IsOpen files.now) }
     ensures damaged { IfDamaged result (IsFailedCheck files.now (F.told folder.new)) }
-    ensures untold { IfDamaged result (λ _. (F.told folder.old).files ≡ None) }
+    ensures untold { OpaqueIfDamaged result (F.told folder.old) }
     ensures writes { MayWrite F.told F.faults folder.old folder.new (IfDevice result) }
 {
     let counters = read_counters(folder)?;
@@ -96,7 +97,7 @@ pub fn count_more<F: Folder>(
     ensures stops { ForSome (F.told folder.old).files (λ from. Passes (F.told folder.old) (F.told folder.new) (KeepsWith [] [] from)) }
     ensures is_open { ForSome (F.told folder.new).files (IsOpen files.now) }
     ensures damaged { IfDamaged result (IsFailedCheck files.now (F.told folder.new)) }
-    ensures untold { IfDamaged result (λ _. (F.told folder.old).files ≡ None) }
+    ensures untold { OpaqueIfDamaged result (F.told folder.old) }
     ensures writes { MayWrite F.told F.faults folder.old folder.new (IfDevice result) }
 {
     let counters = read_counters(folder)?;
@@ -120,7 +121,7 @@ pub fn count_rise<F: Folder>(
     ensures stops { ForSome (F.told folder.old).files (λ from. Passes (F.told folder.old) (F.told folder.new) (KeepsWith [] [] from)) }
     ensures is_open { ForSome (F.told folder.new).files (IsOpen files.now) }
     ensures damaged { IfDamaged result (IsFailedCheck files.now (F.told folder.new)) }
-    ensures untold { IfDamaged result (λ _. (F.told folder.old).files ≡ None) }
+    ensures untold { OpaqueIfDamaged result (F.told folder.old) }
     ensures writes { MayWrite F.told F.faults folder.old folder.new (IfDevice result) }
 {
     let bytes = long(folder, IndexHead::NUM_BYTES64)?;

@@ -1,19 +1,15 @@
 // An object that a handle names is doomed.
-ghost use Rattle.std.specs.Prelude.{◌≡◌, IfSome, IsTrue, None, OnOk, Some};
+ghost use Rattle.std.specs.Prelude.{◌≡◌, IfSome, IsTrue, OnOk};
 ghost use Rattle.std.specs.Option.{ForSome};
-ghost use Rattle.spec_image.specs.Told.{Passes, MayWrite};
-ghost use Rattle.blk_model.specs.Effects.{doomed};
-ghost use Rattle.blk_model.specs.Holding.{rest};
+ghost use Rattle.spec_image.specs.Told.{MayWrite};
 ghost use Rattle.spec_format.specs.Address.{blocks_256, kind_of};
-ghost use Rattle.spec_folder.specs.Found.{charge_of};
 ghost use Rattle.blk_io.specs.Faults.{IfDamaged, IfDevice};
 ghost use Rattle.blk_disk.specs.Open.{IsOpen};
 ghost use Rattle.blk_disk.specs.Tables.{is_node_among, stands_among};
-ghost use Rattle.law_state.specs.Changes.{Finds, SameSession};
-ghost use Rattle.law_state.specs.Keeping.{CountsItems, Keeps};
-ghost use Rattle.blk_object.specs.Dooming.{ForEachHeld, ForEachOut, IsDoomedOut, IsDoomedUncounted, layout_held};
+ghost use Rattle.law_state.specs.Changes.{SameSession};
 ghost use Rattle.blk_object.specs.FailedChecks.{IsFailedCheck};
-ghost use Rattle.blk_object.specs.RemovingObjects.{FindsEither};
+ghost use Rattle.blk_object.specs.Calls.{OpaqueIfDamaged, EndsIn};
+ghost use Rattle.blk_object.specs.RemovalCalls.{ForOut, WhereOut, DoomsOut, StopsOut, ForHeld, WhereHeld, DoomsHeld, DoomsUncounted, StopsDooming};
 
 use crate::counters::count_less;
 use crate::removing::take_out;
@@ -37,10 +33,10 @@ pub fn doom_record<F: Folder>(folder: &mut F, files: &BlockFiles, entry: Addr) -
 
     // Where the record of a main item that is out loads by itself, it loads as a doomed object in the end: so the state with it doomed is kept, with its words
     // in use.
-    ensures doomed { OnOk result (ForSome (F.told folder.old).files (λ from. ForEachOut entry from (λ state layout number object loaded chains unlinked. ForSome (F.told folder.new).files (IsDoomedOut state layout number object loaded chains unlinked from)))) }
+    ensures doomed { OnOk result (ForOut (F.told folder.old) entry (DoomsOut (F.told folder.new))) }
 
     // At each word the durable contents with the object doomed are recovered.
-    ensures stops { ForSome (F.told folder.old).files (λ from. ForEachOut entry from (λ state layout number object loaded chains unlinked. Passes (F.told folder.old) (F.told folder.new) (Finds (rest (doomed number state (Some object)))))) }
+    ensures stops { ForOut (F.told folder.old) entry (StopsOut (F.told folder.old) (F.told folder.new)) }
 
     ensures is_open { ForSome (F.told folder.new).files (IsOpen files.now) }
 
@@ -48,7 +44,7 @@ pub fn doom_record<F: Folder>(folder: &mut F, files: &BlockFiles, entry: Addr) -
     ensures damaged { IfDamaged result (IsFailedCheck files.now (F.told folder.new)) }
 
     // An observable folder, with such an object, reports no corruption.
-    ensures untold { ForSome (F.told folder.old).files (λ from. ForEachOut entry from (λ state layout number object loaded chains unlinked. IfDamaged result (λ _. (F.told folder.old).files ≡ None))) }
+    ensures untold { WhereOut (F.told folder.old) entry (λ from. OpaqueIfDamaged result (F.told folder.old)) }
 
     ensures writes { MayWrite F.told F.faults folder.old folder.new (IfDevice result) }
 {
@@ -76,13 +72,13 @@ pub fn doom_plain<F: Folder>(
     requires is_open { ForSome (F.told folder.old).files (IsOpen files.now) }
 
     // Where all items are counted, and `charge` is the cost of the object, the state with it doomed is kept and counted in the end, the same words unlinked.
-    ensures doomed { OnOk result (ForSome (F.told folder.old).files (λ from. ForEachHeld node found.now.entry found.now.before from (λ state layout unlinked number object loaded. CountsItems from state layout → charge ≡ charge_of loaded → ForSome (F.told folder.new).files (Keeps (doomed number state (Some object)) (layout_held layout number object loaded) unlinked)))) }
+    ensures doomed { OnOk result (ForHeld (F.told folder.old) node found.now (DoomsHeld charge (F.told folder.new))) }
 
     // At each word the old durable contents are recovered, or those with it doomed.
-    ensures stops { ForSome (F.told folder.old).files (λ from. ForEachHeld node found.now.entry found.now.before from (λ state layout unlinked number object loaded. Passes (F.told folder.old) (F.told folder.new) (FindsEither state (doomed number state (Some object))))) }
+    ensures stops { ForHeld (F.told folder.old) node found.now (StopsDooming (F.told folder.old) (F.told folder.new)) }
 
     // The session is the same then.
-    ensures session { OnOk result (ForSome (F.told folder.old).files (λ from. ForEachHeld node found.now.entry found.now.before from (λ state layout unlinked number object loaded. ForSome (F.told folder.new).files (SameSession from)))) }
+    ensures session { OnOk result (WhereHeld (F.told folder.old) node found.now (EndsIn (F.told folder.new) SameSession)) }
 
     ensures is_open { ForSome (F.told folder.new).files (IsOpen files.now) }
 
@@ -90,7 +86,7 @@ pub fn doom_plain<F: Folder>(
     ensures damaged { IfDamaged result (IsFailedCheck files.now (F.told folder.new)) }
 
     // An observable folder, with such an object, reports no corruption.
-    ensures untold { ForSome (F.told folder.old).files (λ from. ForEachHeld node found.now.entry found.now.before from (λ state layout unlinked number object loaded. IfDamaged result (λ _. (F.told folder.old).files ≡ None))) }
+    ensures untold { WhereHeld (F.told folder.old) node found.now (λ from. OpaqueIfDamaged result (F.told folder.old)) }
 
     ensures writes { MayWrite F.told F.faults folder.old folder.new (IfDevice result) }
 {
@@ -111,11 +107,11 @@ fn hold_out<F: Folder>(
     requires kind_before { IfSome found.now.before (λ before. kind_of before ≡ blocks_256) }
     requires stands_before { IfSome found.now.before (λ before. IsTrue (stands_among files.now before)) }
     requires is_open { ForSome (F.told folder.old).files (IsOpen files.now) }
-    ensures held { OnOk result (ForSome (F.told folder.old).files (λ from. ForEachHeld node found.now.entry found.now.before from (λ state layout unlinked number object loaded. ForSome (F.told folder.new).files (IsDoomedUncounted state layout unlinked number object loaded from)))) }
-    ensures stops { ForSome (F.told folder.old).files (λ from. ForEachHeld node found.now.entry found.now.before from (λ state layout unlinked number object loaded. Passes (F.told folder.old) (F.told folder.new) (FindsEither state (doomed number state (Some object))))) }
+    ensures held { OnOk result (ForHeld (F.told folder.old) node found.now (DoomsUncounted (F.told folder.new))) }
+    ensures stops { ForHeld (F.told folder.old) node found.now (StopsDooming (F.told folder.old) (F.told folder.new)) }
     ensures is_open { ForSome (F.told folder.new).files (IsOpen files.now) }
     ensures damaged { IfDamaged result (IsFailedCheck files.now (F.told folder.new)) }
-    ensures untold { ForSome (F.told folder.old).files (λ from. ForEachHeld node found.now.entry found.now.before from (λ state layout unlinked number object loaded. IfDamaged result (λ _. (F.told folder.old).files ≡ None))) }
+    ensures untold { WhereHeld (F.told folder.old) node found.now (λ from. OpaqueIfDamaged result (F.told folder.old)) }
     ensures writes { MayWrite F.told F.faults folder.old folder.new (IfDevice result) }
 {
     take_out(folder, files, found, node)?;

@@ -1,5 +1,5 @@
 // An object is ended when no handle names it any more.
-ghost use Rattle.std.specs.Prelude.{◌≡◌, IsTrue, None, false, true};
+ghost use Rattle.std.specs.Prelude.{◌≡◌, IsTrue, false, true};
 ghost use Rattle.std.specs.Option.{ForSome};
 ghost use Rattle.spec_image.specs.Told.{MayWrite};
 ghost use Rattle.spec_format.specs.Sealed.{record_size};
@@ -10,6 +10,7 @@ ghost use Rattle.blk_disk.specs.Open.{IsOpen};
 ghost use Rattle.blk_disk.specs.Tables.{is_node_among, is_record_among};
 ghost use Rattle.blk_object.specs.Ending.{Cleans, FreesAll, HasFreeable, MayEndObject};
 ghost use Rattle.blk_object.specs.FailedChecks.{IsFailedCheck};
+ghost use Rattle.blk_object.specs.Calls.{UndamagedWhere};
 
 use crate::marking::set_dirty_word;
 use crate::owning::{free_owned, read_owned};
@@ -34,7 +35,7 @@ pub fn end_object<F: Folder>(
     ensures frees { object.now.doomed ≡ true → FreesAll (F.told folder.old) (F.told folder.new) object.now.entry result }
     ensures is_open { ForSome (F.told folder.new).files (IsOpen files.now) }
     ensures damaged { IfDamaged result (IsFailedCheck files.now (F.told folder.new)) }
-    ensures untold { ForSome (F.told folder.old).files (MayEndObject object.now.doomed object.now.entry object.now.node) → IfDamaged result (λ _. (F.told folder.old).files ≡ None) }
+    ensures untold { UndamagedWhere result (F.told folder.old) (MayEndObject object.now.doomed object.now.entry object.now.node) }
     ensures writes { MayWrite F.told F.faults folder.old folder.new (IfDevice result) }
 {
     if object.doomed {
@@ -51,7 +52,7 @@ fn free_entry<F: Folder>(folder: &mut F, files: &BlockFiles, entry: Addr) -> Res
     ensures frees { FreesAll (F.told folder.old) (F.told folder.new) entry result }
     ensures is_open { ForSome (F.told folder.new).files (IsOpen files.now) }
     ensures damaged { IfDamaged result (IsFailedCheck files.now (F.told folder.new)) }
-    ensures untold { ForSome (F.told folder.old).files (HasFreeable entry) → IfDamaged result (λ _. (F.told folder.old).files ≡ None) }
+    ensures untold { UndamagedWhere result (F.told folder.old) (HasFreeable entry) }
     ensures writes { MayWrite F.told F.faults folder.old folder.new (IfDevice result) }
 {
     let owned = read_owned(folder, files, entry)?;
@@ -66,7 +67,7 @@ fn clean<F: Folder>(folder: &mut F, files: &BlockFiles, object: &OpenObject) -> 
     ensures is_open { ForSome (F.told folder.new).files (IsOpen files.now) }
     ensures damaged { IfDamaged result (IsFailedRecord (F.told folder.old) object.now.node (record_size object.now.node)) }
     ensures cause { IfDamaged result (IsFailedCheck files.now (F.told folder.new)) }
-    ensures untold { ForSome (F.told folder.old).files (λ image. (list_of image).checks object.now.node ≡ true) → IfDamaged result (λ _. (F.told folder.old).files ≡ None) }
+    ensures untold { UndamagedWhere result (F.told folder.old) (λ image. (list_of image).checks object.now.node ≡ true) }
     ensures writes { MayWrite F.told F.faults folder.old folder.new (IfDevice result) }
 {
     if object.dirty {

@@ -1,14 +1,14 @@
 // The places of an object that was removed are freed.
-ghost use Rattle.std.specs.Prelude.{◌≡◌, ◌==◌, ◌∷◌, [], All, None, OnErr, OnOk, Some, true};
+ghost use Rattle.std.specs.Prelude.{◌≡◌, ◌==◌, ◌∷◌, [], All, None, OnErr, OnOk, Some};
 ghost use Rattle.std.specs.Option.{ForSome};
 ghost use Rattle.spec_image.specs.Told.{Passes, MayWrite};
 ghost use Rattle.spec_format.specs.Address.{external, kind_of};
-ghost use Rattle.spec_format.specs.BlockFiles.{stands_in, HasSoundHeaders};
 ghost use Rattle.blk_io.specs.Faults.{IfDamaged, IfDevice};
 ghost use Rattle.blk_disk.specs.Open.{IsOpen};
 ghost use Rattle.blk_stream.specs.Freeing.{MayBeFreed};
 ghost use Rattle.blk_object.specs.FailedChecks.{IsFailedCheck};
-ghost use Rattle.blk_object.specs.Freeing.{AreFreeable, AreGoing, IsPlaceGoing, Removes, RemovesPlace, words_at, IsPlaceAmong};
+ghost use Rattle.blk_object.specs.Freeing.{AreFreeable, IsPlaceGoing, words_at, IsPlaceAmong, FreesWords, StopsFreeing, FreesStanding};
+ghost use Rattle.blk_object.specs.Calls.{UndamagedWhere};
 
 use blk_addr::{Addr, Kind};
 use blk_alloc::free;
@@ -29,8 +29,8 @@ pub fn free_places<F: Folder>(
     requires is_open { ForSome (F.told folder.old).files (IsOpen files.now) }
 
     // Places without an owner are freed. At each word those of a prefix are, and the next one perhaps in part.
-    ensures freed { OnOk result (ForSome (F.told folder.old).files (λ from. AreFreeable (words_at places.now) from → ForSome (F.told folder.new).files (Removes (words_at places.now) from))) }
-    ensures stops { ForSome (F.told folder.old).files (λ from. AreFreeable (words_at places.now) from → Passes (F.told folder.old) (F.told folder.new) (AreGoing (words_at places.now) from)) }
+    ensures freed { OnOk result (FreesWords (F.told folder.old) (F.told folder.new) (words_at places.now)) }
+    ensures stops { StopsFreeing (F.told folder.old) (F.told folder.new) (words_at places.now) }
 
     ensures is_open { ForSome (F.told folder.new).files (IsOpen files.now) }
 
@@ -38,7 +38,7 @@ pub fn free_places<F: Folder>(
     ensures damaged { IfDamaged result (IsFailedCheck files.now (F.told folder.new)) }
 
     // An observable folder reports corruption only for a place that has an owner.
-    ensures untold { ForSome (F.told folder.old).files (AreFreeable (words_at places.now)) → IfDamaged result (λ _. (F.told folder.old).files ≡ None) }
+    ensures untold { UndamagedWhere result (F.told folder.old) (AreFreeable (words_at places.now)) }
 
     ensures writes { MayWrite F.told F.faults folder.old folder.new (IfDevice result) }
 {
@@ -56,11 +56,11 @@ fn free_if_any<F: Folder>(
 ) -> Result<(), Fault>
     requires stands { IsPlaceAmong files.now place }
     requires is_open { ForSome (F.told folder.old).files (IsOpen files.now) }
-    ensures freed { OnOk result (ForSome (F.told folder.old).files (λ from. AreFreeable (words_at (place ∷ [])) from → ForSome (F.told folder.new).files (Removes (words_at (place ∷ [])) from))) }
-    ensures stops { ForSome (F.told folder.old).files (λ from. AreFreeable (words_at (place ∷ [])) from → Passes (F.told folder.old) (F.told folder.new) (AreGoing (words_at (place ∷ [])) from)) }
+    ensures freed { OnOk result (FreesWords (F.told folder.old) (F.told folder.new) (words_at (place ∷ []))) }
+    ensures stops { StopsFreeing (F.told folder.old) (F.told folder.new) (words_at (place ∷ [])) }
     ensures is_open { ForSome (F.told folder.new).files (IsOpen files.now) }
     ensures damaged { IfDamaged result (IsFailedCheck files.now (F.told folder.new)) }
-    ensures untold { ForSome (F.told folder.old).files (AreFreeable (words_at (place ∷ []))) → IfDamaged result (λ _. (F.told folder.old).files ≡ None) }
+    ensures untold { UndamagedWhere result (F.told folder.old) (AreFreeable (words_at (place ∷ []))) }
     ensures writes { MayWrite F.told F.faults folder.old folder.new (IfDevice result) }
     ensures back { (F.told folder.new).files ≡ None → (F.told folder.old).files ≡ None }
 {
@@ -74,11 +74,11 @@ fn free_if_any<F: Folder>(
 fn free_place<F: Folder>(folder: &mut F, files: &BlockFiles, place: Addr) -> Result<(), Fault>
     requires stands { IsPlaceAmong files.now (Some place) }
     requires is_open { ForSome (F.told folder.old).files (IsOpen files.now) }
-    ensures freed { OnOk result (ForSome (F.told folder.old).files (λ from. HasSoundHeaders from → stands_in from place ≡ true → ForSome (F.told folder.new).files (RemovesPlace place from))) }
+    ensures freed { OnOk result (FreesStanding (F.told folder.old) (F.told folder.new) place) }
     ensures stops { ForSome (F.told folder.old).files (λ from. Passes (F.told folder.old) (F.told folder.new) (IsPlaceGoing place from)) }
     ensures is_open { ForSome (F.told folder.new).files (IsOpen files.now) }
     ensures damaged { IfDamaged result (IsFailedCheck files.now (F.told folder.new)) }
-    ensures untold { ForSome (F.told folder.old).files (MayBeFreed place) → IfDamaged result (λ _. (F.told folder.old).files ≡ None) }
+    ensures untold { UndamagedWhere result (F.told folder.old) (MayBeFreed place) }
     ensures writes { MayWrite F.told F.faults folder.old folder.new (IfDevice result) }
 {
     if is_external(place) {
@@ -100,7 +100,7 @@ pub(crate) fn is_external(place: Addr) -> bool
 fn delete_file<F: Folder>(folder: &mut F, files: &BlockFiles, place: Addr) -> Result<(), Failed>
     requires kind { kind_of place ≡ external }
     requires is_open { ForSome (F.told folder.old).files (IsOpen files.now) }
-    ensures freed { OnOk result (ForSome (F.told folder.old).files (λ from. HasSoundHeaders from → stands_in from place ≡ true → ForSome (F.told folder.new).files (RemovesPlace place from))) }
+    ensures freed { OnOk result (FreesStanding (F.told folder.old) (F.told folder.new) place) }
     ensures stops { ForSome (F.told folder.old).files (λ from. Passes (F.told folder.old) (F.told folder.new) (IsPlaceGoing place from)) }
     ensures is_open { ForSome (F.told folder.new).files (IsOpen files.now) }
     ensures writes { MayWrite F.told F.faults folder.old folder.new (OnErr result) }

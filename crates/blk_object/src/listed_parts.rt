@@ -5,16 +5,16 @@ ghost use Rattle.spec_image.specs.Told.{ReadsOnly};
 ghost use Rattle.blk_model.specs.Sizes.{part_count};
 ghost use Rattle.spec_format.specs.Address.{blocks_256, kind_of};
 ghost use Rattle.spec_format.specs.Names.{read_name};
-ghost use Rattle.spec_folder.specs.Loads.{Loaded};
 ghost use Rattle.spec_folder.specs.View.{node_at};
 ghost use Rattle.blk_io.specs.Faults.{IfDamaged, IfDevice};
 ghost use Rattle.blk_disk.specs.Open.{IsOpen};
 ghost use Rattle.blk_disk.specs.Tables.{Agrees, is_node_among, stands_among};
 ghost use Rattle.blk_entry.specs.Keys.{most_key};
 ghost use Rattle.blk_object.specs.FailedChecks.{IsFailedCheck};
-ghost use Rattle.blk_object.specs.ListedParts.{ForEachSearch, IsFoundPart, IsPartThere, LoadsAt, SaysPart, first_node, number_said, part_loaded, part_number};
+ghost use Rattle.blk_object.specs.ListedParts.{IsFoundPart, IsPartThere, SaysPart, first_node, number_said, part_loaded, part_number, ForLoadedAt, LoadsSomeAt, IsAtItsNode, ForSearch};
 ghost use Rattle.blk_object.specs.ListWalks.{GoesTo, WalkEnds};
-ghost use Rattle.blk_object.specs.Owning.{LoadsWith};
+ghost use Rattle.blk_object.specs.Owning.{ForLoaded, LoadsSomeWith};
+ghost use Rattle.blk_object.specs.Calls.{OpaqueIfDamaged, UndamagedWhere};
 
 use crate::list_walks::{end_walk, node_damage};
 use blk_addr::Addr;
@@ -50,7 +50,7 @@ pub fn next_part<F: Folder>(
 
     // Where some items are out, or none, the answer is the first part of the key among the others, or after the item of `from`; it is None exactly where none
     // is.
-    ensures part { IfOk result (λ found. ForSome (F.told folder.old).files (λ image. ForEachSearch from image (λ layout items. IsFoundPart layout key.now items found))) }
+    ensures part { IfOk result (λ found. ForSearch (F.told folder.old) from (λ layout items. IsFoundPart layout key.now items found)) }
     ensures there { IfOk result (λ found. IfSome found (IsPartThere files.now)) }
 
     // On every folder the answer is None only where the list ends.
@@ -60,7 +60,7 @@ pub fn next_part<F: Folder>(
     ensures named { IfOk result (λ found. IfSome found (λ part. ForSome (F.told folder.old).files (SaysPart part.entry key.now part.number))) }
 
     // The node of the part names that record.
-    ensures contents { IfOk result (λ found. IfSome found (λ part. ForSome (F.told folder.old).files (λ image. part.entry ≡ (node_at image part.node).contents))) }
+    ensures contents { IfOk result (λ found. IfSome found (λ part. IsAtItsNode (F.told folder.old) part)) }
 
     ensures reads { ReadsOnly F.told F.faults folder.old folder.new (IfDevice result) }
 
@@ -68,7 +68,7 @@ pub fn next_part<F: Folder>(
     ensures damaged { IfDamaged result (IsFailedCheck files.now (F.told folder.new)) }
 
     // An observable folder that keeps a state, with some items out or none, reports no corruption.
-    ensures untold { ForSome (F.told folder.old).files (λ image. ForEachSearch from image (λ layout items. IfDamaged result (λ _. (F.told folder.old).files ≡ None))) }
+    ensures untold { ForSearch (F.told folder.old) from (λ layout items. OpaqueIfDamaged result (F.told folder.old)) }
 {
     let mut last = from;
     let mut next = node_behind(folder, files, from)?;
@@ -95,12 +95,12 @@ fn node_behind<F: Folder>(
 ) -> Result<Option<Addr>, Fault>
     requires from { IfSome from (λ node. IsTrue (is_node_among files.now node)) }
     requires is_open { ForSome (F.told folder.old).files (IsOpen files.now) }
-    ensures node { IfOk result (λ node. ForSome (F.told folder.old).files (λ image. ForEachSearch from image (λ layout items. node ≡ first_node layout items))) }
+    ensures node { IfOk result (λ node. ForSearch (F.told folder.old) from (λ layout items. node ≡ first_node layout items)) }
     ensures word { IfOk result (λ node. ForSome (F.told folder.old).files (λ image. GoesTo NodeView.NEXT image from node)) }
     ensures stands { IfOk result (λ node. IfSome node (λ n. IsTrue (is_node_among files.now n))) }
     ensures reads { ReadsOnly F.told F.faults folder.old folder.new (IfDevice result) }
     ensures damaged { IfDamaged result (IsFailedCheck files.now (F.told folder.new)) }
-    ensures untold { ForSome (F.told folder.old).files (λ image. ForEachSearch from image (λ layout items. IfDamaged result (λ _. (F.told folder.old).files ≡ None))) }
+    ensures untold { ForSearch (F.told folder.old) from (λ layout items. OpaqueIfDamaged result (F.told folder.old)) }
 {
     match from {
         Some(node) => after(folder, files, node),
@@ -118,13 +118,13 @@ fn part_at<F: Folder>(
 ) -> Result<Option<ListedPart>, Fault>
     requires node { IsTrue (is_node_among files.now node) }
     requires buffer { most_key ≤ length buffer.old }
-    ensures part { IfOk result (λ found. ForSome (F.told folder.old).files (λ image. (loaded : Loaded) → LoadsAt node loaded image → found ≡ part_loaded key.now node loaded)) }
+    ensures part { IfOk result (λ found. ForLoadedAt (F.told folder.old) node (λ loaded. found ≡ part_loaded key.now node loaded)) }
     ensures there { IfOk result (λ found. IfSome found (IsPartThere files.now)) }
     ensures named { IfOk result (λ found. IfSome found (λ part. ForSome (F.told folder.old).files (SaysPart part.entry key.now part.number))) }
-    ensures contents { IfOk result (λ found. IfSome found (λ part. ForSome (F.told folder.old).files (λ image. part.entry ≡ (node_at image part.node).contents))) }
+    ensures contents { IfOk result (λ found. IfSome found (λ part. IsAtItsNode (F.told folder.old) part)) }
     ensures reads { ReadsOnly F.told F.faults folder.old folder.new (IfDevice result) }
     ensures damaged { IfDamaged result (IsFailedCheck files.now (F.told folder.new)) }
-    ensures untold { ForSome (F.told folder.old).files (Agrees files.now) → ForSome (F.told folder.old).files (λ image. (loaded : Loaded) × LoadsAt node loaded image) → IfDamaged result (λ _. (F.told folder.old).files ≡ None) }
+    ensures untold { ForSome (F.told folder.old).files (Agrees files.now) → UndamagedWhere result (F.told folder.old) (LoadsSomeAt node) }
 {
     let entry = entry_named(folder, files, node)?;
     match number_of(folder, files, key, entry, buffer)? {
@@ -147,7 +147,7 @@ pub fn entry_named<F: Folder>(folder: &mut F, files: &BlockFiles, node: Addr) ->
     ensures stands { IfOk result (λ entry. IsTrue (stands_among files.now entry)) }
     ensures reads { ReadsOnly F.told F.faults folder.old folder.new (IfDevice result) }
     ensures damaged { IfDamaged result (IsFailedCheck files.now (F.told folder.new)) }
-    ensures untold { ForSome (F.told folder.old).files (Agrees files.now) → ForSome (F.told folder.old).files (λ image. (loaded : Loaded) × LoadsAt node loaded image) → IfDamaged result (λ _. (F.told folder.old).files ≡ None) }
+    ensures untold { ForSome (F.told folder.old).files (Agrees files.now) → UndamagedWhere result (F.told folder.old) (LoadsSomeAt node) }
 {
     let mut bytes = [0u8; 4];
     files.read_block(folder, node, NodeView::CONTENTS, &mut bytes)?;
@@ -169,12 +169,12 @@ fn number_of<F: Folder>(
     requires kind { kind_of entry ≡ blocks_256 }
     requires stands { IsTrue (stands_among files.now entry) }
     requires buffer { most_key ≤ length buffer.old }
-    ensures number { IfOk result (λ number. ForSome (F.told folder.old).files (λ image. (loaded : Loaded) → LoadsWith entry loaded image → number ≡ part_number key.now loaded.role)) }
+    ensures number { IfOk result (λ number. ForLoaded (F.told folder.old) entry (λ loaded. number ≡ part_number key.now loaded.role)) }
     ensures small { IfOk result (λ number. IfSome number (λ n. n < part_count)) }
     ensures named { IfOk result (λ number. IfSome number (λ n. ForSome (F.told folder.old).files (SaysPart entry key.now n))) }
     ensures reads { ReadsOnly F.told F.faults folder.old folder.new (IfDevice result) }
     ensures damaged { IfDamaged result (IsFailedCheck files.now (F.told folder.new)) }
-    ensures untold { ForSome (F.told folder.old).files (Agrees files.now) → ForSome (F.told folder.old).files (λ image. (loaded : Loaded) × LoadsWith entry loaded image) → IfDamaged result (λ _. (F.told folder.old).files ≡ None) }
+    ensures untold { ForSome (F.told folder.old).files (Agrees files.now) → UndamagedWhere result (F.told folder.old) (LoadsSomeWith entry) }
 {
     let head = read_head(folder, files, entry)?;
     if head.flags != CHILD {

@@ -1,10 +1,8 @@
 // A new object is made.
-ghost use Rattle.std.specs.Prelude.{◌≡◌, ◌≤◌, None, IfOk, IsTrue, OnOk, length};
+ghost use Rattle.std.specs.Prelude.{◌≤◌, IfOk, IsTrue, OnOk, length};
 ghost use Rattle.std.specs.Option.{ForSome};
-ghost use Rattle.spec_image.specs.Image.{Index as index, byte};
 ghost use Rattle.spec_image.specs.Told.{Passes, MayWrite};
 ghost use Rattle.blk_model.specs.Sizes.{longest_key};
-ghost use Rattle.spec_format.specs.Headers.{this_id_of};
 ghost use Rattle.blk_io.specs.Faults.{IfDamaged, IfDevice};
 ghost use Rattle.blk_disk.specs.Open.{IsOpen};
 ghost use Rattle.blk_disk.specs.Tables.{is_node_among, is_record_among};
@@ -12,7 +10,8 @@ ghost use Rattle.blk_entry.specs.Writing.{FitsKey, HoldsLongKey, LiesApart};
 ghost use Rattle.blk_alloc.specs.Extending.{KeepsStanding};
 ghost use Rattle.law_state.specs.Changes.{SameCounters, StillFinds};
 ghost use Rattle.blk_object.specs.FailedChecks.{IsFailedCheck};
-ghost use Rattle.blk_object.specs.Making.{CanBeListed, CreatesCanHaveNew, FindsUntilListed, FindsWhileMade, HasNewObjects, HasRoomForNew, HasTimes, IsEntryOfKept, IsEntryListed, KeepsTimes, new_entry, words_of_places};
+ghost use Rattle.blk_object.specs.Making.{CanBeListed, CreatesCanHaveNew, FindsUntilListed, FindsWhileMade, HasNewObjects, HasRoomForNew, HasTimes, IsEntryOfKept, IsEntryListed, KeepsTimes, new_entry, words_of_places, IsOfSession};
+ghost use Rattle.blk_object.specs.Calls.{OpaqueIfDamaged, UndamagedWhere, LeavesWhere, StopsWhere};
 
 use crate::counters::{count_entry, read_counters};
 use crate::making_places::{Places, take_places};
@@ -57,13 +56,13 @@ pub fn make_entry<F: Folder>(
     requires is_open { ForSome (F.told folder.old).files (IsOpen files.old) }
 
     // Each state that was kept, that can have the object, in a session of this number, is kept with it in the end.
-    ensures made { IfOk result (λ made. ForSome (F.told folder.old).files (λ from. this_id_of (byte from index) ≡ mark → ForSome (F.told folder.new).files (HasNewObjects key.now made from))) }
+    ensures made { IfOk result (λ made. LeavesWhere (F.told folder.old) (F.told folder.new) (IsOfSession mark) (HasNewObjects key.now made)) }
 
     // The object was made, accessed and changed at the moment.
     ensures times { IfOk result (λ made. ForSome (F.told folder.new).files (HasTimes made.entry made.node moment)) }
 
     // At each word the old durable contents are recovered: the new object is dirty, and so it isn't durable.
-    ensures stops { ForSome (F.told folder.old).files (λ from. HasRoomForNew key.now mark from → Passes (F.told folder.old) (F.told folder.new) (FindsWhileMade key.now from)) }
+    ensures stops { StopsWhere (F.told folder.old) (F.told folder.new) (HasRoomForNew key.now mark) (FindsWhileMade key.now) }
 
     // What was valid still is, and so are the record and the node.
     ensures keeps { KeepsStanding files.old files.new }
@@ -74,7 +73,7 @@ pub fn make_entry<F: Folder>(
     ensures damaged { IfDamaged result (IsFailedCheck files.new (F.told folder.new)) }
 
     // An observable folder that keeps such a state reports no corruption.
-    ensures untold { ForSome (F.told folder.old).files (HasRoomForNew key.now mark) → IfDamaged result (λ _. (F.told folder.old).files ≡ None) }
+    ensures untold { UndamagedWhere result (F.told folder.old) (HasRoomForNew key.now mark) }
     ensures writes { MayWrite F.told F.faults folder.old folder.new (IfDevice result) }
 {
     let counters = read_counters(folder)?;
@@ -107,7 +106,7 @@ fn write_new<F: Folder>(
     ensures stops { ForSome (F.told folder.old).files (λ from. Passes (F.told folder.old) (F.told folder.new) (StillFinds (words_of_places places.now) from)) }
     ensures is_open { ForSome (F.told folder.new).files (IsOpen files.now) }
     ensures damaged { IfDamaged result (IsFailedCheck files.now (F.told folder.new)) }
-    ensures untold { IfDamaged result (λ _. (F.told folder.old).files ≡ None) }
+    ensures untold { OpaqueIfDamaged result (F.told folder.old) }
     ensures writes { MayWrite F.told F.faults folder.old folder.new (IfDevice result) }
 {
     let hash = super_fast_hash(key);
@@ -134,12 +133,12 @@ fn list_entry<F: Folder>(
     requires node { IsTrue (is_node_among files.now node) }
     requires is_open { ForSome (F.told folder.old).files (IsOpen files.now) }
     ensures listed { OnOk result (ForSome (F.told folder.old).files (λ from. ForSome (F.told folder.new).files (IsEntryListed entry node from))) }
-    ensures counters { OnOk result (ForSome (F.told folder.old).files (λ from. CanBeListed entry node from → ForSome (F.told folder.new).files (SameCounters from))) }
+    ensures counters { OnOk result (LeavesWhere (F.told folder.old) (F.told folder.new) (CanBeListed entry node) SameCounters) }
     ensures times { OnOk result (ForSome (F.told folder.old).files (λ from. ForSome (F.told folder.new).files (KeepsTimes entry node from))) }
-    ensures stops { ForSome (F.told folder.old).files (λ from. CanBeListed entry node from → Passes (F.told folder.old) (F.told folder.new) (FindsUntilListed entry node from)) }
+    ensures stops { StopsWhere (F.told folder.old) (F.told folder.new) (CanBeListed entry node) (FindsUntilListed entry node) }
     ensures is_open { ForSome (F.told folder.new).files (IsOpen files.now) }
     ensures damaged { IfDamaged result (IsFailedCheck files.now (F.told folder.new)) }
-    ensures untold { ForSome (F.told folder.old).files (CanBeListed entry node) → IfDamaged result (λ _. (F.told folder.old).files ≡ None) }
+    ensures untold { UndamagedWhere result (F.told folder.old) (CanBeListed entry node) }
     ensures writes { MayWrite F.told F.faults folder.old folder.new (IfDevice result) }
 {
     insert_front(folder, files, node)?;

@@ -1,5 +1,5 @@
 // The places of a new entry are allocated.
-ghost use Rattle.std.specs.Prelude.{◌≡◌, ◌≢◌, ◌+◌, ◌==◌, ◌<◌, ◌≤◌, [], ◌∷◌, true, false, None, Some, IfOk, OnOk, IsTrue, nat_le};
+ghost use Rattle.std.specs.Prelude.{◌≡◌, ◌≢◌, ◌+◌, ◌==◌, ◌<◌, ◌≤◌, [], ◌∷◌, true, false, Some, IfOk, OnOk, IsTrue, nat_le};
 ghost use Rattle.std.specs.Option.{ForSome};
 ghost use Rattle.spec_image.specs.Image.{External as external_file, length_of};
 ghost use Rattle.spec_image.specs.Told.{Passes, MayWrite, ReadsOnly};
@@ -7,7 +7,6 @@ ghost use Rattle.spec_format.specs.Address.{block_count, blocks_256, external, e
 ghost use Rattle.spec_format.specs.Headers.{HasWholeIndex};
 ghost use Rattle.spec_format.specs.Maps.{group_size};
 ghost use Rattle.spec_format.specs.Names.{longest_name};
-ghost use Rattle.spec_format.specs.Storage as storage;
 ghost use Rattle.blk_addr.specs.Kind.{kind_number};
 ghost use Rattle.blk_io.specs.Faults.{IfDamaged, IfDevice};
 ghost use Rattle.blk_disk.specs.Open.{IsOpen};
@@ -17,7 +16,8 @@ ghost use Rattle.blk_entry.specs.Writing.{HoldsLongKey, IsLongPlace, LiesApart};
 ghost use Rattle.blk_alloc.specs.Extending.{KeepsStanding};
 ghost use Rattle.law_state.specs.Changes.{StillFinds};
 ghost use Rattle.blk_object.specs.FailedChecks.{HasOtherLength, IsFailedCheck, IsSharedKey};
-ghost use Rattle.blk_object.specs.Making.{LeavesRoom, Takes, long_word, words_of_places};
+ghost use Rattle.blk_object.specs.Making.{LeavesRoom, Takes, long_word, words_of_places, IsRecordPlace, IsLongIfExternal};
+ghost use Rattle.blk_object.specs.Calls.{UndamagedWhere, LeavesWhere};
 
 use blk_addr::{Addr, Kind, LONGEST_SHORT_KEY, blocks_for, entry_blocks, kind_for};
 use blk_alloc::allocate;
@@ -46,17 +46,17 @@ pub fn take_places<F: Folder>(
 ) -> Result<Places, Fault>
     requires most { key_len ≤ longest_name }
     requires is_open { ForSome (F.told folder.old).files (IsOpen files.old) }
-    ensures entry { IfOk result (λ places. (kind_of places.entry ≡ blocks_256) × (block_count places.entry ≡ storage.entry_blocks key_len) × IsTrue (is_address places.entry) × IsTrue (stands_among files.new places.entry)) }
+    ensures entry { IfOk result (λ places. IsRecordPlace files.new key_len places.entry) }
     ensures node { IfOk result (λ places. (kind_of places.node ≡ rankings) × IsTrue (is_address places.node) × IsTrue (stands_among files.new places.node)) }
     ensures long { IfOk result (λ places. IsLongPlace files.new key_len places.long_key) }
     ensures holds { IfOk result (λ places. ForSome (F.told folder.new).files (HoldsLongKey places.long_key key_len)) }
     ensures apart { IfOk result (λ places. LiesApart places.entry places.long_key) }
     ensures keeps { KeepsStanding files.old files.new }
-    ensures taken { IfOk result (λ places. ForSome (F.told folder.old).files (λ from. LeavesRoom 3 from → ForSome (F.told folder.new).files (Takes (words_of_places places) from))) }
+    ensures taken { IfOk result (λ places. LeavesWhere (F.told folder.old) (F.told folder.new) (LeavesRoom 3) (Takes (words_of_places places))) }
     ensures is_open { OnOk result (ForSome (F.told folder.new).files (IsOpen files.new)) }
     ensures stops { ForSome (F.told folder.old).files (λ from. LeavesRoom 3 from → Passes (F.told folder.old) (F.told folder.new) (StillFinds [] from)) }
     ensures damaged { IfDamaged result (IsFailedCheck files.new (F.told folder.new)) }
-    ensures untold { ForSome (F.told folder.old).files (LeavesRoom 3) → IfDamaged result (λ _. (F.told folder.old).files ≡ None) }
+    ensures untold { UndamagedWhere result (F.told folder.old) (LeavesRoom 3) }
     ensures writes { MayWrite F.told F.faults folder.old folder.new (IfDevice result) }
 {
     let entry = take_blocks(folder, files, Kind::B256, entry_blocks(key_len))?;
@@ -81,11 +81,11 @@ fn take_long_key<F: Folder>(
     ensures long { IfOk result (IsLongPlace files.new key_len) }
     ensures holds { IfOk result (λ long_key. ForSome (F.told folder.new).files (HoldsLongKey long_key key_len)) }
     ensures keeps { KeepsStanding files.old files.new }
-    ensures taken { IfOk result (λ long_key. ForSome (F.told folder.old).files (λ from. LeavesRoom 1 from → ForSome (F.told folder.new).files (Takes (long_word long_key) from))) }
+    ensures taken { IfOk result (λ long_key. LeavesWhere (F.told folder.old) (F.told folder.new) (LeavesRoom 1) (Takes (long_word long_key))) }
     ensures is_open { OnOk result (ForSome (F.told folder.new).files (IsOpen files.new)) }
     ensures stops { ForSome (F.told folder.old).files (λ from. LeavesRoom 1 from → Passes (F.told folder.old) (F.told folder.new) (StillFinds [] from)) }
     ensures damaged { IfDamaged result (IsFailedCheck files.new (F.told folder.new)) }
-    ensures untold { ForSome (F.told folder.old).files (LeavesRoom 1) → IfDamaged result (λ _. (F.told folder.old).files ≡ None) }
+    ensures untold { UndamagedWhere result (F.told folder.old) (LeavesRoom 1) }
     ensures writes { MayWrite F.told F.faults folder.old folder.new (IfDevice result) }
 {
     if key_len <= LONGEST_SHORT_KEY {
@@ -100,13 +100,13 @@ fn take_storage<F: Folder>(folder: &mut F, files: &mut BlockFiles, size: u32) ->
     requires some { 0 < size }
     requires is_open { ForSome (F.told folder.old).files (IsOpen files.old) }
     ensures stores { IfOk result (λ addr. keys.stores files.new size addr ≡ true) }
-    ensures holds { IfOk result (λ addr. ForSome (F.told folder.new).files (λ image. kind_of addr ≡ external → length_of image (external_file (external_number addr)) ≡ size)) }
+    ensures holds { IfOk result (λ addr. ForSome (F.told folder.new).files (IsLongIfExternal addr size)) }
     ensures keeps { KeepsStanding files.old files.new }
-    ensures taken { IfOk result (λ addr. ForSome (F.told folder.old).files (λ from. LeavesRoom 1 from → ForSome (F.told folder.new).files (Takes (addr ∷ []) from))) }
+    ensures taken { IfOk result (λ addr. LeavesWhere (F.told folder.old) (F.told folder.new) (LeavesRoom 1) (Takes (addr ∷ []))) }
     ensures is_open { OnOk result (ForSome (F.told folder.new).files (IsOpen files.new)) }
     ensures stops { ForSome (F.told folder.old).files (λ from. LeavesRoom 1 from → Passes (F.told folder.old) (F.told folder.new) (StillFinds [] from)) }
     ensures damaged { IfDamaged result (IsFailedCheck files.new (F.told folder.new)) }
-    ensures untold { ForSome (F.told folder.old).files (LeavesRoom 1) → IfDamaged result (λ _. (F.told folder.old).files ≡ None) }
+    ensures untold { UndamagedWhere result (F.told folder.old) (LeavesRoom 1) }
     ensures writes { MayWrite F.told F.faults folder.old folder.new (IfDevice result) }
 {
     let kind = kind_for(size);
@@ -139,11 +139,11 @@ fn take_blocks<F: Folder>(
     ensures address { IfOk result (λ addr. IsTrue (is_address addr)) }
     ensures stands { IfOk result (λ addr. IsTrue (stands_among files.new addr)) }
     ensures keeps { KeepsStanding files.old files.new }
-    ensures taken { IfOk result (λ addr. ForSome (F.told folder.old).files (λ from. LeavesRoom 1 from → ForSome (F.told folder.new).files (Takes (addr ∷ []) from))) }
+    ensures taken { IfOk result (λ addr. LeavesWhere (F.told folder.old) (F.told folder.new) (LeavesRoom 1) (Takes (addr ∷ []))) }
     ensures is_open { OnOk result (ForSome (F.told folder.new).files (IsOpen files.new)) }
     ensures stops { ForSome (F.told folder.old).files (λ from. LeavesRoom 1 from → Passes (F.told folder.old) (F.told folder.new) (StillFinds [] from)) }
     ensures damaged { IfDamaged result (IsFailedCheck files.new (F.told folder.new)) }
-    ensures untold { ForSome (F.told folder.old).files (LeavesRoom 1) → IfDamaged result (λ _. (F.told folder.old).files ≡ None) }
+    ensures untold { UndamagedWhere result (F.told folder.old) (LeavesRoom 1) }
     ensures writes { MayWrite F.told F.faults folder.old folder.new (IfDevice result) }
 {
     let addr = allocate(folder, files, kind, count)?;
@@ -157,11 +157,11 @@ fn take_file<F: Folder>(folder: &mut F, files: &BlockFiles, size: u32) -> Result
     ensures kind { IfOk result (λ addr. kind_of addr ≡ external) }
     ensures address { IfOk result (λ addr. IsTrue (is_address addr)) }
     ensures holds { IfOk result (λ addr. ForSome (F.told folder.new).files (λ image. length_of image (external_file (external_number addr)) ≡ size)) }
-    ensures taken { IfOk result (λ addr. ForSome (F.told folder.old).files (λ from. LeavesRoom 1 from → ForSome (F.told folder.new).files (Takes (addr ∷ []) from))) }
+    ensures taken { IfOk result (λ addr. LeavesWhere (F.told folder.old) (F.told folder.new) (LeavesRoom 1) (Takes (addr ∷ []))) }
     ensures is_open { OnOk result (ForSome (F.told folder.new).files (IsOpen files.now)) }
     ensures stops { ForSome (F.told folder.old).files (λ from. LeavesRoom 1 from → Passes (F.told folder.old) (F.told folder.new) (StillFinds [] from)) }
     ensures damaged { IfDamaged result (IsFailedCheck files.now (F.told folder.new)) }
-    ensures untold { ForSome (F.told folder.old).files (LeavesRoom 1) → IfDamaged result (λ _. (F.told folder.old).files ≡ None) }
+    ensures untold { UndamagedWhere result (F.told folder.old) (LeavesRoom 1) }
     ensures writes { MayWrite F.told F.faults folder.old folder.new (IfDevice result) }
 {
     let addr = create(folder)?;
@@ -176,7 +176,7 @@ pub fn check_index<F: Folder>(folder: &mut F) -> Result<(), Fault>
     ensures whole { OnOk result (ForSome (F.told folder.old).files HasWholeIndex) }
     ensures reads { ReadsOnly F.told F.faults folder.old folder.new (IfDevice result) }
     ensures damaged { IfDamaged result (HasOtherLength (F.told folder.new)) }
-    ensures untold { ForSome (F.told folder.old).files HasWholeIndex → IfDamaged result (λ _. (F.told folder.old).files ≡ None) }
+    ensures untold { UndamagedWhere result (F.told folder.old) HasWholeIndex }
 {
     let length = folder.length(FileId::Index)?.unwrap_or(0);
     if length != IndexHead::INDEX_LEN {

@@ -1,19 +1,19 @@
 // The places that an entry has.
 ghost use Rattle.std.specs.Prelude.{◌≡◌, ◌<◌, ◌+◌, ◌^◌, ◌==◌, All, IfOk, IsOk, IsTrue, None, OnOk, Some, false, true, slice_index, if◌then◌else◌};
 ghost use Rattle.std.specs.Option.{ForSome};
-ghost use Rattle.spec_image.specs.Told.{Passes, MayWrite, ReadsOnly};
+ghost use Rattle.spec_image.specs.Told.{MayWrite, ReadsOnly};
 ghost use Rattle.spec_format.specs.Address.{blocks_256, kind_of};
 ghost use Rattle.spec_format.specs.Records.{entry_size};
 ghost use Rattle.spec_folder.specs.Found.{charge_of};
-ghost use Rattle.spec_folder.specs.Loads.{Loaded};
 ghost use Rattle.spec_folder.specs.Sound.{words_of};
 ghost use Rattle.spec_folder.specs.View.{entry_at};
 ghost use Rattle.blk_io.specs.Faults.{IfDamaged, IfDevice};
 ghost use Rattle.blk_disk.specs.Open.{IsOpen};
 ghost use Rattle.blk_disk.specs.Tables.{Agrees, stands_among};
 ghost use Rattle.blk_object.specs.FailedChecks.{IsFailedCheck, IsLostWord};
-ghost use Rattle.blk_object.specs.Freeing.{AreFreeable, AreGoing, IsPlaceAmong, Removes, words_at};
-ghost use Rattle.blk_object.specs.Owning.{LoadsWith, is_there};
+ghost use Rattle.blk_object.specs.Freeing.{AreFreeable, IsPlaceAmong, words_at, FreesWords, StopsFreeing};
+ghost use Rattle.blk_object.specs.Owning.{is_there, ForLoaded, LoadsSomeWith};
+ghost use Rattle.blk_object.specs.Calls.{UndamagedWhere};
 
 use crate::freeing::{free_places, is_external};
 use blk_addr::Addr;
@@ -46,8 +46,8 @@ pub fn read_owned<F: Folder>(
     requires stands { IsTrue (stands_among files.now entry) }
 
     // The answered places are those of all the address words of what lies there with this record, and each is there.
-    ensures words { IfOk result (λ owned. ForSome (F.told folder.old).files (λ image. (loaded : Loaded) → LoadsWith entry loaded image → words_at owned.places ≡ words_of loaded)) }
-    ensures charge { IfOk result (λ owned. ForSome (F.told folder.old).files (λ image. (loaded : Loaded) → LoadsWith entry loaded image → owned.charge ≡ charge_of loaded)) }
+    ensures words { IfOk result (λ owned. ForLoaded (F.told folder.old) entry (λ loaded. words_at owned.places ≡ words_of loaded)) }
+    ensures charge { IfOk result (λ owned. ForLoaded (F.told folder.old) entry (λ loaded. owned.charge ≡ charge_of loaded)) }
     ensures small { IfOk result (λ owned. owned.charge < 2 ^ 34) }
     ensures flags { IfOk result (λ owned. ForSome (F.told folder.old).files (λ image. owned.flags ≡ (entry_at image entry).flags)) }
     ensures there { IfOk result (λ owned. All (IsPlaceAmong files.now) owned.places) }
@@ -58,7 +58,7 @@ pub fn read_owned<F: Folder>(
     ensures damaged { IfDamaged result (IsFailedCheck files.now (F.told folder.new)) }
 
     // An observable folder reports corruption only where no entry lies there with this record.
-    ensures untold { ForSome (F.told folder.old).files (Agrees files.now) → ForSome (F.told folder.old).files (λ image. (loaded : Loaded) × LoadsWith entry loaded image) → IfDamaged result (λ _. (F.told folder.old).files ≡ None) }
+    ensures untold { ForSome (F.told folder.old).files (Agrees files.now) → UndamagedWhere result (F.told folder.old) (LoadsSomeWith entry) }
 {
     let head = read_head(folder, files, entry)?;
     let node = place_of(files, entry, EntryView::NODE, head.node)?;
@@ -79,8 +79,8 @@ pub fn free_owned<F: Folder>(folder: &mut F, files: &BlockFiles, owned: &Owned) 
     requires is_open { ForSome (F.told folder.old).files (IsOpen files.now) }
 
     // Places without an owner are freed. At each word those of a prefix are, and the next one perhaps in part.
-    ensures freed { OnOk result (ForSome (F.told folder.old).files (λ from. AreFreeable (words_at owned.now.places) from → ForSome (F.told folder.new).files (Removes (words_at owned.now.places) from))) }
-    ensures stops { ForSome (F.told folder.old).files (λ from. AreFreeable (words_at owned.now.places) from → Passes (F.told folder.old) (F.told folder.new) (AreGoing (words_at owned.now.places) from)) }
+    ensures freed { OnOk result (FreesWords (F.told folder.old) (F.told folder.new) (words_at owned.now.places)) }
+    ensures stops { StopsFreeing (F.told folder.old) (F.told folder.new) (words_at owned.now.places) }
 
     ensures is_open { ForSome (F.told folder.new).files (IsOpen files.now) }
 
@@ -88,7 +88,7 @@ pub fn free_owned<F: Folder>(folder: &mut F, files: &BlockFiles, owned: &Owned) 
     ensures damaged { IfDamaged result (IsFailedCheck files.now (F.told folder.new)) }
 
     // An observable folder reports corruption only for a place that has an owner.
-    ensures untold { ForSome (F.told folder.old).files (AreFreeable (words_at owned.now.places)) → IfDamaged result (λ _. (F.told folder.old).files ≡ None) }
+    ensures untold { UndamagedWhere result (F.told folder.old) (AreFreeable (words_at owned.now.places)) }
 
     ensures writes { MayWrite F.told F.faults folder.old folder.new (IfDevice result) }
 {

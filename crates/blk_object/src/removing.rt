@@ -1,13 +1,14 @@
 // An item is removed from the LRU list and from its chain.
-ghost use Rattle.std.specs.Prelude.{◌≡◌, IfSome, IsTrue, None, OnOk};
+ghost use Rattle.std.specs.Prelude.{◌≡◌, IfSome, IsTrue, OnOk};
 ghost use Rattle.std.specs.Option.{ForSome};
-ghost use Rattle.spec_image.specs.Told.{Passes, MayWrite};
+ghost use Rattle.spec_image.specs.Told.{MayWrite};
 ghost use Rattle.spec_format.specs.Address.{blocks_256, kind_of};
 ghost use Rattle.blk_io.specs.Faults.{IfDamaged, IfDevice};
 ghost use Rattle.blk_disk.specs.Open.{IsOpen};
 ghost use Rattle.blk_disk.specs.Tables.{is_node_among, stands_among};
 ghost use Rattle.blk_object.specs.FailedChecks.{IsFailedCheck};
-ghost use Rattle.blk_object.specs.Removing.{IsGoingOut, IsTakenOut, MayGoOut};
+ghost use Rattle.blk_object.specs.Removing.{MayGoOut, TakesOut, StopsTakingOut};
+ghost use Rattle.blk_object.specs.Calls.{UndamagedWhere};
 
 use blk_addr::Addr;
 use blk_chain::{Found, unlink};
@@ -34,11 +35,11 @@ pub fn take_out<F: Folder>(
     requires is_open { ForSome (F.told folder.old).files (IsOpen files.now) }
 
     // An item that may go out is taken out.
-    ensures taken { OnOk result (ForSome (F.told folder.old).files (λ from. MayGoOut node found.now.entry found.now.before from → ForSome (F.told folder.new).files (IsTakenOut node found.now.entry found.now.before from))) }
+    ensures taken { OnOk result (TakesOut (F.told folder.old) (F.told folder.new) node found.now) }
 
     // At each word a prefix of the writes of the list is made, or the node is out of it and the record is in its chain yet, or out of
     // it.
-    ensures stops { ForSome (F.told folder.old).files (λ from. MayGoOut node found.now.entry found.now.before from → Passes (F.told folder.old) (F.told folder.new) (IsGoingOut node found.now.entry found.now.before from)) }
+    ensures stops { StopsTakingOut (F.told folder.old) (F.told folder.new) node found.now }
 
     ensures is_open { ForSome (F.told folder.new).files (IsOpen files.now) }
 
@@ -46,7 +47,7 @@ pub fn take_out<F: Folder>(
     ensures damaged { IfDamaged result (IsFailedCheck files.now (F.told folder.new)) }
 
     // An observable folder reports corruption only for an item that may not go out.
-    ensures untold { ForSome (F.told folder.old).files (MayGoOut node found.now.entry found.now.before) → IfDamaged result (λ _. (F.told folder.old).files ≡ None) }
+    ensures untold { UndamagedWhere result (F.told folder.old) (MayGoOut node found.now.entry found.now.before) }
 
     ensures writes { MayWrite F.told F.faults folder.old folder.new (IfDevice result) }
 {

@@ -1,18 +1,15 @@
 // The main item of an object is removed from list and chain before its parts.
-ghost use Rattle.std.specs.Prelude.{◌≡◌, IfSome, IsTrue, None, OnOk, Some};
+ghost use Rattle.std.specs.Prelude.{◌≡◌, IfSome, IsTrue, OnOk};
 ghost use Rattle.std.specs.Option.{ForSome};
-ghost use Rattle.spec_image.specs.Told.{Passes, MayWrite};
-ghost use Rattle.blk_model.specs.Effects.{doomed};
+ghost use Rattle.spec_image.specs.Told.{MayWrite};
 ghost use Rattle.spec_format.specs.Address.{blocks_256, kind_of};
-ghost use Rattle.spec_folder.specs.Found.{charge_of};
 ghost use Rattle.blk_io.specs.Faults.{IfDamaged, IfDevice};
 ghost use Rattle.blk_disk.specs.Open.{IsOpen};
 ghost use Rattle.blk_disk.specs.Tables.{is_node_among, stands_among};
 ghost use Rattle.law_state.specs.Changes.{SameSession};
-ghost use Rattle.law_state.specs.Keeping.{CountsItems};
 ghost use Rattle.blk_object.specs.FailedChecks.{IsFailedCheck};
-ghost use Rattle.blk_object.specs.NextItems.{ForEachMain, IsMainOut};
-ghost use Rattle.blk_object.specs.RemovingObjects.{FindsEither};
+ghost use Rattle.blk_object.specs.Calls.{OpaqueIfDamaged, EndsIn};
+ghost use Rattle.blk_object.specs.RemovalCalls.{StopsDooming, ForMain, WhereMain, TakesMain};
 
 use crate::counters::count_less;
 use crate::removing::take_out;
@@ -41,13 +38,13 @@ pub fn take_main<F: Folder>(
     requires is_open { ForSome (F.told folder.old).files (IsOpen files.now) }
 
     // Where all items are counted, and `charge` is the cost of the main item, this item is out in the end, and those that are left are counted.
-    ensures out { OnOk result (ForSome (F.told folder.old).files (λ from. ForEachMain node found.now.entry found.now.before from (λ state layout unlinked number object was. CountsItems from state layout → charge ≡ charge_of was → ForSome (F.told folder.new).files (IsMainOut state layout unlinked object.key was)))) }
+    ensures out { OnOk result (ForMain (F.told folder.old) node found.now (TakesMain charge (F.told folder.new))) }
 
     // At each word the old durable contents are recovered, or those with the object doomed.
-    ensures stops { ForSome (F.told folder.old).files (λ from. ForEachMain node found.now.entry found.now.before from (λ state layout unlinked number object was. Passes (F.told folder.old) (F.told folder.new) (FindsEither state (doomed number state (Some object))))) }
+    ensures stops { ForMain (F.told folder.old) node found.now (StopsDooming (F.told folder.old) (F.told folder.new)) }
 
     // The session is the same then.
-    ensures session { OnOk result (ForSome (F.told folder.old).files (λ from. ForEachMain node found.now.entry found.now.before from (λ state layout unlinked number object was. ForSome (F.told folder.new).files (SameSession from)))) }
+    ensures session { OnOk result (WhereMain (F.told folder.old) node found.now (EndsIn (F.told folder.new) SameSession)) }
 
     ensures is_open { ForSome (F.told folder.new).files (IsOpen files.now) }
 
@@ -55,7 +52,7 @@ pub fn take_main<F: Folder>(
     ensures damaged { IfDamaged result (IsFailedCheck files.now (F.told folder.new)) }
 
     // An observable folder, with such an item, reports no corruption.
-    ensures untold { ForSome (F.told folder.old).files (λ from. ForEachMain node found.now.entry found.now.before from (λ state layout unlinked number object was. IfDamaged result (λ _. (F.told folder.old).files ≡ None))) }
+    ensures untold { WhereMain (F.told folder.old) node found.now (λ from. OpaqueIfDamaged result (F.told folder.old)) }
 
     ensures writes { MayWrite F.told F.faults folder.old folder.new (IfDevice result) }
 {

@@ -1,19 +1,18 @@
 // A single item is removed.
-ghost use Rattle.std.specs.Prelude.{◌≡◌, ◌<◌, ◌^◌, All, IfOk, IfSome, IsTrue, None, OnOk};
+ghost use Rattle.std.specs.Prelude.{◌≡◌, ◌<◌, ◌^◌, All, IfOk, IfSome, IsTrue, OnOk};
 ghost use Rattle.std.specs.Option.{ForSome};
-ghost use Rattle.spec_image.specs.Told.{Passes, MayWrite};
+ghost use Rattle.spec_image.specs.Told.{MayWrite};
 ghost use Rattle.spec_format.specs.Address.{blocks_256, kind_of};
 ghost use Rattle.spec_folder.specs.Found.{charge_of};
-ghost use Rattle.spec_folder.specs.Loads.{Loaded};
 ghost use Rattle.blk_io.specs.Faults.{IfDamaged, IfDevice};
 ghost use Rattle.blk_disk.specs.Open.{IsOpen};
 ghost use Rattle.blk_disk.specs.Tables.{is_node_among, stands_among};
 ghost use Rattle.law_state.specs.Changes.{SameSession};
 ghost use Rattle.blk_object.specs.FailedChecks.{IsFailedCheck};
 ghost use Rattle.blk_object.specs.Freeing.{IsPlaceAmong};
-ghost use Rattle.blk_object.specs.NextItems.{ForEachNext, IsGoingNext, IsOutUncounted};
-ghost use Rattle.blk_object.specs.Owning.{LoadsWith};
-ghost use Rattle.blk_object.specs.RemovingObjects.{FindsEither, ForEachAlone, IsGoneUncounted, IsOwnedBy, IsRemovedWhole};
+ghost use Rattle.blk_object.specs.Owning.{ForLoaded};
+ghost use Rattle.blk_object.specs.Calls.{OpaqueIfDamaged, EndsIn};
+ghost use Rattle.blk_object.specs.RemovalCalls.{ForAlone, WhereAlone, ForOwnedAlone, WhereOwnedAlone, RemovesAlone, TakesAlone, StopsAlone, ForNext, WhereNext, ForOwnedNext, WhereOwnedNext, TakesNext, StopsTakingNext};
 
 use crate::counters::count_less;
 use crate::owning::{Owned, free_owned, read_owned};
@@ -42,15 +41,15 @@ pub fn remove_item<F: Folder>(
     requires is_open { ForSome (F.told folder.old).files (IsOpen files.now) }
 
     // The answer is the cost of what lay there with this record.
-    ensures charge { IfOk result (λ charge. ForSome (F.told folder.old).files (λ from. (was : Loaded) → LoadsWith found.now.entry was from → charge ≡ charge_of was)) }
+    ensures charge { IfOk result (λ charge. ForLoaded (F.told folder.old) found.now.entry (λ was. charge ≡ charge_of was)) }
 
     // Where such an item lies there in a state that is kept and counted, the state without it is so in the end. At each
     // word the old durable contents are recovered, or those without it.
-    ensures removed { OnOk result (ForSome (F.told folder.old).files (λ from. ForEachAlone node found.now.entry found.now.before from (λ state after layout unlinked. ForSome (F.told folder.new).files (IsRemovedWhole after layout unlinked node found.now.entry)))) }
-    ensures stops { ForSome (F.told folder.old).files (λ from. ForEachAlone node found.now.entry found.now.before from (λ state after layout unlinked. Passes (F.told folder.old) (F.told folder.new) (FindsEither state after))) }
+    ensures removed { OnOk result (ForAlone (F.told folder.old) node found.now (RemovesAlone (F.told folder.new) node found.now)) }
+    ensures stops { ForAlone (F.told folder.old) node found.now (StopsAlone (F.told folder.old) (F.told folder.new)) }
 
     // The session is the same then.
-    ensures session { OnOk result (ForSome (F.told folder.old).files (λ from. ForEachAlone node found.now.entry found.now.before from (λ state after layout unlinked. ForSome (F.told folder.new).files (SameSession from)))) }
+    ensures session { OnOk result (WhereAlone (F.told folder.old) node found.now (EndsIn (F.told folder.new) SameSession)) }
 
     ensures is_open { ForSome (F.told folder.new).files (IsOpen files.now) }
 
@@ -58,7 +57,7 @@ pub fn remove_item<F: Folder>(
     ensures damaged { IfDamaged result (IsFailedCheck files.now (F.told folder.new)) }
 
     // An observable folder, with such an item in a state that is kept and counted, reports no corruption.
-    ensures untold { ForSome (F.told folder.old).files (λ from. ForEachAlone node found.now.entry found.now.before from (λ state after layout unlinked. IfDamaged result (λ _. (F.told folder.old).files ≡ None))) }
+    ensures untold { WhereAlone (F.told folder.old) node found.now (λ from. OpaqueIfDamaged result (F.told folder.old)) }
 
     ensures writes { MayWrite F.told F.faults folder.old folder.new (IfDevice result) }
 {
@@ -85,11 +84,11 @@ pub fn remove_read<F: Folder>(
 
     // Where these are its places and its cost, and such an item lies there in a state that is kept and counted, the state without it is so in the end. At each
     // word the old durable contents are recovered, or those without it.
-    ensures removed { OnOk result (ForSome (F.told folder.old).files (λ from. IsOwnedBy found.now.entry owned.now from → ForEachAlone node found.now.entry found.now.before from (λ state after layout unlinked. ForSome (F.told folder.new).files (IsRemovedWhole after layout unlinked node found.now.entry)))) }
-    ensures stops { ForSome (F.told folder.old).files (λ from. IsOwnedBy found.now.entry owned.now from → ForEachAlone node found.now.entry found.now.before from (λ state after layout unlinked. Passes (F.told folder.old) (F.told folder.new) (FindsEither state after))) }
+    ensures removed { OnOk result (ForOwnedAlone (F.told folder.old) node found.now owned.now (RemovesAlone (F.told folder.new) node found.now)) }
+    ensures stops { ForOwnedAlone (F.told folder.old) node found.now owned.now (StopsAlone (F.told folder.old) (F.told folder.new)) }
 
     // The session is the same then.
-    ensures session { OnOk result (ForSome (F.told folder.old).files (λ from. IsOwnedBy found.now.entry owned.now from → ForEachAlone node found.now.entry found.now.before from (λ state after layout unlinked. ForSome (F.told folder.new).files (SameSession from)))) }
+    ensures session { OnOk result (WhereOwnedAlone (F.told folder.old) node found.now owned.now (EndsIn (F.told folder.new) SameSession)) }
 
     ensures is_open { ForSome (F.told folder.new).files (IsOpen files.now) }
 
@@ -97,7 +96,7 @@ pub fn remove_read<F: Folder>(
     ensures damaged { IfDamaged result (IsFailedCheck files.now (F.told folder.new)) }
 
     // An observable folder, with such an item in a state that is kept and counted, reports no corruption.
-    ensures untold { ForSome (F.told folder.old).files (λ from. IsOwnedBy found.now.entry owned.now from → ForEachAlone node found.now.entry found.now.before from (λ state after layout unlinked. IfDamaged result (λ _. (F.told folder.old).files ≡ None))) }
+    ensures untold { WhereOwnedAlone (F.told folder.old) node found.now owned.now (λ from. OpaqueIfDamaged result (F.told folder.old)) }
 
     ensures writes { MayWrite F.told F.faults folder.old folder.new (IfDevice result) }
 {
@@ -118,16 +117,16 @@ pub(crate) fn take_away<F: Folder>(
     requires kind_before { IfSome found.now.before (λ before. kind_of before ≡ blocks_256) }
     requires stands_before { IfSome found.now.before (λ before. IsTrue (stands_among files.now before)) }
     requires is_open { ForSome (F.told folder.old).files (IsOpen files.now) }
-    ensures charge { IfOk result (λ charge. ForSome (F.told folder.old).files (λ from. (was : Loaded) → LoadsWith found.now.entry was from → charge ≡ charge_of was)) }
+    ensures charge { IfOk result (λ charge. ForLoaded (F.told folder.old) found.now.entry (λ was. charge ≡ charge_of was)) }
     ensures small { IfOk result (λ charge. charge < 2 ^ 34) }
-    ensures gone { IfOk result (λ charge. ForSome (F.told folder.old).files (λ from. ForEachAlone node found.now.entry found.now.before from (λ state after layout unlinked. ForSome (F.told folder.new).files (IsGoneUncounted state after layout unlinked node found.now.entry charge)))) }
-    ensures stops { ForSome (F.told folder.old).files (λ from. ForEachAlone node found.now.entry found.now.before from (λ state after layout unlinked. Passes (F.told folder.old) (F.told folder.new) (FindsEither state after))) }
-    ensures out { IfOk result (λ charge. ForSome (F.told folder.old).files (λ from. ForEachNext node found.now.entry found.now.before from (λ state layout keep chains unlinked item. ForSome (F.told folder.new).files (IsOutUncounted state layout keep chains unlinked item found.now.entry charge from)))) }
-    ensures going { ForSome (F.told folder.old).files (λ from. ForEachNext node found.now.entry found.now.before from (λ state layout keep chains unlinked item. Passes (F.told folder.old) (F.told folder.new) (IsGoingNext state layout keep chains unlinked item node found.now.entry found.now.before from))) }
+    ensures gone { IfOk result (λ charge. ForAlone (F.told folder.old) node found.now (TakesAlone (F.told folder.new) node found.now charge)) }
+    ensures stops { ForAlone (F.told folder.old) node found.now (StopsAlone (F.told folder.old) (F.told folder.new)) }
+    ensures out { IfOk result (λ charge. ForNext (F.told folder.old) node found.now (TakesNext (F.told folder.new) found.now charge)) }
+    ensures going { ForNext (F.told folder.old) node found.now (StopsTakingNext (F.told folder.old) (F.told folder.new) node found.now) }
     ensures is_open { ForSome (F.told folder.new).files (IsOpen files.now) }
     ensures damaged { IfDamaged result (IsFailedCheck files.now (F.told folder.new)) }
-    ensures untold { ForSome (F.told folder.old).files (λ from. ForEachAlone node found.now.entry found.now.before from (λ state after layout unlinked. IfDamaged result (λ _. (F.told folder.old).files ≡ None))) }
-    ensures untold_out { ForSome (F.told folder.old).files (λ from. ForEachNext node found.now.entry found.now.before from (λ state layout keep chains unlinked item. IfDamaged result (λ _. (F.told folder.old).files ≡ None))) }
+    ensures untold { WhereAlone (F.told folder.old) node found.now (λ from. OpaqueIfDamaged result (F.told folder.old)) }
+    ensures untold_out { WhereNext (F.told folder.old) node found.now (λ from. OpaqueIfDamaged result (F.told folder.old)) }
     ensures writes { MayWrite F.told F.faults folder.old folder.new (IfDevice result) }
 {
     let read = read_owned(folder, files, found.entry)?;
@@ -150,14 +149,14 @@ fn take_read<F: Folder>(
     requires stands_before { IfSome found.now.before (λ before. IsTrue (stands_among files.now before)) }
     requires places { All (IsPlaceAmong files.now) owned.now.places }
     requires is_open { ForSome (F.told folder.old).files (IsOpen files.now) }
-    ensures gone { OnOk result (ForSome (F.told folder.old).files (λ from. IsOwnedBy found.now.entry owned.now from → ForEachAlone node found.now.entry found.now.before from (λ state after layout unlinked. ForSome (F.told folder.new).files (IsGoneUncounted state after layout unlinked node found.now.entry owned.now.charge)))) }
-    ensures stops { ForSome (F.told folder.old).files (λ from. IsOwnedBy found.now.entry owned.now from → ForEachAlone node found.now.entry found.now.before from (λ state after layout unlinked. Passes (F.told folder.old) (F.told folder.new) (FindsEither state after))) }
-    ensures out { OnOk result (ForSome (F.told folder.old).files (λ from. IsOwnedBy found.now.entry owned.now from → ForEachNext node found.now.entry found.now.before from (λ state layout keep chains unlinked item. ForSome (F.told folder.new).files (IsOutUncounted state layout keep chains unlinked item found.now.entry owned.now.charge from)))) }
-    ensures going { ForSome (F.told folder.old).files (λ from. IsOwnedBy found.now.entry owned.now from → ForEachNext node found.now.entry found.now.before from (λ state layout keep chains unlinked item. Passes (F.told folder.old) (F.told folder.new) (IsGoingNext state layout keep chains unlinked item node found.now.entry found.now.before from))) }
+    ensures gone { OnOk result (ForOwnedAlone (F.told folder.old) node found.now owned.now (TakesAlone (F.told folder.new) node found.now owned.now.charge)) }
+    ensures stops { ForOwnedAlone (F.told folder.old) node found.now owned.now (StopsAlone (F.told folder.old) (F.told folder.new)) }
+    ensures out { OnOk result (ForOwnedNext (F.told folder.old) node found.now owned.now (TakesNext (F.told folder.new) found.now owned.now.charge)) }
+    ensures going { ForOwnedNext (F.told folder.old) node found.now owned.now (StopsTakingNext (F.told folder.old) (F.told folder.new) node found.now) }
     ensures is_open { ForSome (F.told folder.new).files (IsOpen files.now) }
     ensures damaged { IfDamaged result (IsFailedCheck files.now (F.told folder.new)) }
-    ensures untold { ForSome (F.told folder.old).files (λ from. IsOwnedBy found.now.entry owned.now from → ForEachAlone node found.now.entry found.now.before from (λ state after layout unlinked. IfDamaged result (λ _. (F.told folder.old).files ≡ None))) }
-    ensures untold_out { ForSome (F.told folder.old).files (λ from. IsOwnedBy found.now.entry owned.now from → ForEachNext node found.now.entry found.now.before from (λ state layout keep chains unlinked item. IfDamaged result (λ _. (F.told folder.old).files ≡ None))) }
+    ensures untold { WhereOwnedAlone (F.told folder.old) node found.now owned.now (λ from. OpaqueIfDamaged result (F.told folder.old)) }
+    ensures untold_out { WhereOwnedNext (F.told folder.old) node found.now owned.now (λ from. OpaqueIfDamaged result (F.told folder.old)) }
     ensures writes { MayWrite F.told F.faults folder.old folder.new (IfDevice result) }
 {
     take_out(folder, files, found, node)?;

@@ -1,21 +1,17 @@
 // Removes a part of an object that is removed with its parts.
-ghost use Rattle.std.specs.Prelude.{◌≡◌, ◌<◌, ◌^◌, IfOk, IfSome, IsTrue, None, OnOk, Some};
+ghost use Rattle.std.specs.Prelude.{◌≡◌, ◌<◌, ◌^◌, IfOk, IfSome, IsTrue, OnOk};
 ghost use Rattle.std.specs.Option.{ForSome};
-ghost use Rattle.spec_image.specs.Told.{Passes, MayWrite};
-ghost use Rattle.blk_model.specs.Effects.{doomed};
-ghost use Rattle.blk_model.specs.Holding.{rest};
+ghost use Rattle.spec_image.specs.Told.{MayWrite};
 ghost use Rattle.spec_format.specs.Address.{blocks_256, kind_of};
 ghost use Rattle.spec_folder.specs.Found.{charge_of};
-ghost use Rattle.spec_folder.specs.Loads.{Loaded};
 ghost use Rattle.blk_io.specs.Faults.{IfDamaged, IfDevice};
 ghost use Rattle.blk_disk.specs.Open.{IsOpen};
 ghost use Rattle.blk_disk.specs.Tables.{is_node_among, stands_among};
-ghost use Rattle.law_state.specs.Changes.{Finds, SameSession};
+ghost use Rattle.law_state.specs.Changes.{SameSession};
 ghost use Rattle.blk_object.specs.FailedChecks.{IsFailedCheck};
-ghost use Rattle.blk_object.specs.NextItems.{ForEachNext, ForEachPart, IsOutAndCounted};
-ghost use Rattle.blk_object.specs.RemovingNext.{CountsLeft};
-ghost use Rattle.blk_object.specs.Owning.{LoadsWith};
-ghost use Rattle.blk_object.specs.UnlinkedLoads.{KeepsUnlinked};
+ghost use Rattle.blk_object.specs.Owning.{ForLoaded};
+ghost use Rattle.blk_object.specs.Calls.{OpaqueIfDamaged, EndsIn};
+ghost use Rattle.blk_object.specs.RemovalCalls.{ForNext, WhereNext, RemovesNext, KeepsOthers, ForPart, StopsPart};
 
 use crate::counters::count_less;
 use crate::removing_objects::take_away;
@@ -43,20 +39,20 @@ pub fn remove_part<F: Folder>(
     requires is_open { ForSome (F.told folder.old).files (IsOpen files.now) }
 
     // The answer is the cost of what lay there with this record.
-    ensures charge { IfOk result (λ charge. ForSome (F.told folder.old).files (λ from. (was : Loaded) → LoadsWith found.now.entry was from → charge ≡ charge_of was)) }
+    ensures charge { IfOk result (λ charge. ForLoaded (F.told folder.old) found.now.entry (λ was. charge ≡ charge_of was)) }
     ensures small { IfOk result (λ charge. charge < 2 ^ 34) }
 
     // Where some items are out, or none, and the others are counted, one more is out in the end, and those that are left are counted.
-    ensures removed { OnOk result (ForSome (F.told folder.old).files (λ from. ForEachNext node found.now.entry found.now.before from (λ state layout keep chains unlinked item. CountsLeft state layout keep from → ForSome (F.told folder.new).files (IsOutAndCounted state layout keep chains unlinked item found.now.entry)))) }
+    ensures removed { OnOk result (ForNext (F.told folder.old) node found.now (RemovesNext (F.told folder.new) found.now)) }
 
     // The session is the same then.
-    ensures session { OnOk result (ForSome (F.told folder.old).files (λ from. ForEachNext node found.now.entry found.now.before from (λ state layout keep chains unlinked item. ForSome (F.told folder.new).files (SameSession from)))) }
+    ensures session { OnOk result (WhereNext (F.told folder.old) node found.now (EndsIn (F.told folder.new) SameSession)) }
 
     // What lay in unlinked places, as its main item, loads yet by itself.
-    ensures keeps { OnOk result (ForSome (F.told folder.old).files (λ from. ForEachNext node found.now.entry found.now.before from (λ state layout keep chains unlinked item. ForSome (F.told folder.new).files (KeepsUnlinked unlinked from)))) }
+    ensures keeps { OnOk result (ForNext (F.told folder.old) node found.now (KeepsOthers (F.told folder.new))) }
 
     // While a part goes after its main item, the durable contents with its object doomed are recovered.
-    ensures part { ForSome (F.told folder.old).files (λ from. ForEachPart node found.now.entry found.now.before from (λ state number object. Passes (F.told folder.old) (F.told folder.new) (Finds (rest (doomed number state (Some object)))))) }
+    ensures part { ForPart (F.told folder.old) node found.now (StopsPart (F.told folder.old) (F.told folder.new)) }
 
     ensures is_open { ForSome (F.told folder.new).files (IsOpen files.now) }
 
@@ -64,7 +60,7 @@ pub fn remove_part<F: Folder>(
     ensures damaged { IfDamaged result (IsFailedCheck files.now (F.told folder.new)) }
 
     // An observable folder, with such an item, reports no corruption.
-    ensures untold { ForSome (F.told folder.old).files (λ from. ForEachNext node found.now.entry found.now.before from (λ state layout keep chains unlinked item. IfDamaged result (λ _. (F.told folder.old).files ≡ None))) }
+    ensures untold { WhereNext (F.told folder.old) node found.now (λ from. OpaqueIfDamaged result (F.told folder.old)) }
 
     ensures writes { MayWrite F.told F.faults folder.old folder.new (IfDevice result) }
 {

@@ -1,19 +1,17 @@
 // A stream of an open object is written.
-ghost use Rattle.std.specs.Prelude.{◌≡◌, ◌≤◌, ◌⊎◌, ◌<◌, ◌+◌, IsTrue, None, OnOk, length};
+ghost use Rattle.std.specs.Prelude.{◌≡◌, ◌≤◌, ◌<◌, ◌+◌, IsTrue, OnOk, length};
 ghost use Rattle.std.specs.Option.{ForSome};
-ghost use Rattle.spec_image.specs.Told.{Passes, MayWrite, ReadsOnly};
-ghost use Rattle.blk_model.specs.Holding.{rest};
+ghost use Rattle.spec_image.specs.Told.{MayWrite, ReadsOnly};
 ghost use Rattle.spec_format.specs.Address.{blocks_256, kind_of};
 ghost use Rattle.spec_folder.specs.Entries.{most_stream_bytes};
 ghost use Rattle.blk_io.specs.Faults.{IfDamaged, IfDevice};
 ghost use Rattle.blk_disk.specs.Open.{IsOpen};
 ghost use Rattle.blk_disk.specs.Tables.{Agrees, stands_among};
-ghost use Rattle.blk_entry.specs.Keys.{IsDamageAt, IsInFile};
+ghost use Rattle.blk_entry.specs.Keys.{IsInFile};
 ghost use Rattle.blk_alloc.specs.Extending.{KeepsStanding};
-ghost use Rattle.law_state.specs.Changes.{Finds};
-ghost use Rattle.blk_stream.specs.Streams.{address_place, address_word, size_place, size_word};
 ghost use Rattle.blk_object.specs.FailedChecks.{IsFailedCheck, ReadsTooFew};
-ghost use Rattle.blk_object.specs.Writing.{ForEachPartUnsettled, ForEachUnsettled, HasStreamThere, IsPartWrittenUncounted, IsWrittenUncounted};
+ghost use Rattle.blk_object.specs.Writing.{HasStreamThere, IsStreamThere, IsStreamDamage, ForUnsettled, WhereUnsettled, WritesObject, StopsWriting, ForPartUnsettled, WherePartUnsettled, WritesPartStream, StopsPartWriting};
+ghost use Rattle.blk_object.specs.Calls.{OpaqueIfDamaged, UndamagedWhere};
 
 use crate::freeing::is_external;
 use crate::making_places::check_index;
@@ -51,15 +49,15 @@ pub fn write_object<F: Folder>(
     requires is_open { ForSome (F.told folder.old).files (IsOpen files.old) }
 
     // Each state that was kept, with such an object, is kept with its stream written in the end, but for the counters.
-    ensures written { OnOk result (ForSome (F.told folder.old).files (λ from. ForEachUnsettled entry stream offset cut bytes.now from (λ state layout unlinked number object was. ForSome (F.told folder.new).files (IsWrittenUncounted state layout unlinked number object was stream offset cut bytes.now from)))) }
+    ensures written { OnOk result (WritesObject (F.told folder.old) (F.told folder.new) entry stream offset cut bytes.now) }
 
     // So is each with a part of such an object, which the stream makes one with another value.
-    ensures part_written { OnOk result (ForSome (F.told folder.old).files (λ from. ForEachPartUnsettled entry stream offset cut bytes.now from (λ state layout unlinked number object n value was role. ForSome (F.told folder.new).files (IsPartWrittenUncounted state layout unlinked number object n value was role stream offset cut bytes.now from)))) }
+    ensures part_written { OnOk result (WritesPartStream (F.told folder.old) (F.told folder.new) entry stream offset cut bytes.now) }
 
     // At each word the old durable contents are recovered: a dirty object isn't durable, nor are its parts.
-    ensures stops { ForSome (F.told folder.old).files (λ from. ForEachUnsettled entry stream offset cut bytes.now from (λ state layout unlinked number object was. Passes (F.told folder.old) (F.told folder.new) (Finds (rest state)))) }
+    ensures stops { ForUnsettled (F.told folder.old) entry stream offset cut bytes.now (StopsWriting (F.told folder.old) (F.told folder.new)) }
 
-    ensures part_stops { ForSome (F.told folder.old).files (λ from. ForEachPartUnsettled entry stream offset cut bytes.now from (λ state layout unlinked number object n value was role. Passes (F.told folder.old) (F.told folder.new) (Finds (rest state)))) }
+    ensures part_stops { ForPartUnsettled (F.told folder.old) entry stream offset cut bytes.now (StopsPartWriting (F.told folder.old) (F.told folder.new)) }
 
     // What was valid still is.
     ensures keeps { KeepsStanding files.old files.new }
@@ -69,8 +67,8 @@ pub fn write_object<F: Folder>(
     ensures damaged { IfDamaged result (IsFailedCheck files.new (F.told folder.new)) }
 
     // An observable folder, with such an object or such a part, reports no corruption.
-    ensures untold { ForSome (F.told folder.old).files (λ from. ForEachUnsettled entry stream offset cut bytes.now from (λ state layout unlinked number object was. IfDamaged result (λ _. (F.told folder.old).files ≡ None))) }
-    ensures part_untold { ForSome (F.told folder.old).files (λ from. ForEachPartUnsettled entry stream offset cut bytes.now from (λ state layout unlinked number object n value was role. IfDamaged result (λ _. (F.told folder.old).files ≡ None))) }
+    ensures untold { WhereUnsettled (F.told folder.old) entry stream offset cut bytes.now (λ from. OpaqueIfDamaged result (F.told folder.old)) }
+    ensures part_untold { WherePartUnsettled (F.told folder.old) entry stream offset cut bytes.now (λ from. OpaqueIfDamaged result (F.told folder.old)) }
 
     ensures writes { MayWrite F.told F.faults folder.old folder.new (IfDevice result) }
 {
@@ -89,10 +87,10 @@ fn check_stream<F: Folder>(
     requires stream { stream < 3 }
     requires kind { kind_of entry ≡ blocks_256 }
     requires stands { IsTrue (stands_among files.now entry) }
-    ensures there { OnOk result (ForSome (F.told folder.old).files (λ image. IsInFile (address_word image entry stream) 0 (size_word image entry stream) image)) }
+    ensures there { OnOk result (ForSome (F.told folder.old).files (IsStreamThere entry stream)) }
     ensures reads { ReadsOnly F.told F.faults folder.old folder.new (IfDevice result) }
     ensures damaged { IfDamaged result (IsFailedCheck files.now (F.told folder.new)) }
-    ensures untold { ForSome (F.told folder.old).files (Agrees files.now) → ForSome (F.told folder.old).files (HasStreamThere entry stream) → IfDamaged result (λ _. (F.told folder.old).files ≡ None) }
+    ensures untold { ForSome (F.told folder.old).files (Agrees files.now) → UndamagedWhere result (F.told folder.old) (HasStreamThere entry stream) }
 {
     let head = read_head(folder, files, entry)?;
     let size = head.sizes[usize::from(stream)];
@@ -110,7 +108,7 @@ fn check_stream<F: Folder>(
 fn unplaced(entry: Addr, stream: u8, size: u32, word: u32) -> Fault
     requires stream { stream < 3 }
     requires kind { kind_of entry ≡ blocks_256 }
-    ensures { ((most_stream_bytes < size) × IsDamageAt entry (size_place stream) size result) ⊎ ((size ≤ most_stream_bytes) × IsDamageAt entry (address_place stream) word result) }
+    ensures { IsStreamDamage entry stream size word result }
 {
     if size > MOST_STREAM {
         return record_damage(entry, EntryView::DATA_SIZE + 4 * u32::from(stream), size);
@@ -123,7 +121,7 @@ fn check_length<F: Folder>(folder: &mut F, addr: Addr, size: u32) -> Result<(), 
     ensures there { OnOk result (ForSome (F.told folder.old).files (IsInFile addr 0 size)) }
     ensures reads { ReadsOnly F.told F.faults folder.old folder.new (IfDevice result) }
     ensures damaged { IfDamaged result (ReadsTooFew (F.told folder.new)) }
-    ensures untold { ForSome (F.told folder.old).files (IsInFile addr 0 size) → IfDamaged result (λ _. (F.told folder.old).files ≡ None) }
+    ensures untold { UndamagedWhere result (F.told folder.old) (IsInFile addr 0 size) }
 {
     if !is_external(addr) {
         return Ok(());
