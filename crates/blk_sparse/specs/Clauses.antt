@@ -1,5 +1,5 @@
 -- Clauses of this crate's functions: on each object that an observable folder has, what a call leaves of it.
-use Rattle.std.specs.Prelude.{◌≡◌, ◌×◌, ℕ, ℤ, ◌∷◌, [], Bool, IsTrue, List, Result, Some, filter, length, map}
+use Rattle.std.specs.Prelude.{◌≡◌, ℕ, ℤ, ◌∷◌, [], Bool, IsTrue, List, Result, Some, filter, length, map}
 use Rattle.std.specs.Int.{cast_unsigned, w64}
 use Rattle.std.specs.List.{FoldsTo}
 use Rattle.std.specs.Option.{ForSome}
@@ -177,9 +177,9 @@ ForPieceOfKey told key parent piece P = ForTold told (ForEachPieceOfKey key pare
 abbrev pub ForNewPart : Told → (parent : ℕ) → PartName → (P : Told → (parent : ℕ) → PartName → Image → NodeClause) → Type 0
 ForNewPart told parent name P = ForTold told (ForEachWithout parent name) (P told parent name)
 
--- the same of a part with this record, of which `map` is the index afterwards
-abbrev pub ForChange : Told → (of_part place : ℕ) → (piece map : List ℕ) → (P : Told → (place : ℕ) → (piece : List ℕ) → Image → PartClause) → Type 0
-ForChange told of_part place piece map P = ForTold told (ForEachToBeChanged of_part place piece map) (P told place piece)
+-- the same of a part with this record, of which `index` are the bytes of its index afterwards
+abbrev pub ForChange : Told → (of_part place : ℕ) → (piece index : List ℕ) → (P : Told → (place : ℕ) → (piece : List ℕ) → Image → PartClause) → Type 0
+ForChange told of_part place piece index P = ForTold told (ForEachToBeChanged of_part place piece index) (P told place piece)
 
 -- What a call does to an object: each of these takes what the call left first, and then the image that it found, and the object as ForTold gives it.
 
