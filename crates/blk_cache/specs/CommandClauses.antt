@@ -15,6 +15,7 @@ use Rattle.blk_model.specs.declared.Refusal.{Refusal}
 use Rattle.blk_model.specs.declared.Refusal.TheVariants as refusal
 use Rattle.blk_model.specs.Refusals.{first_refusal, no_key, no_name}
 use Rattle.blk_model.specs.Step.{step}
+use Rattle.spec_folder.specs.Layout.{Layout}
 use Rattle.blk_disk.specs.declared.tables.BlockFiles.{BlockFiles}
 use Rattle.blk_disk.specs.Tables.{is_node_among}
 use Rattle.law_state.specs.Commands.{Does, ForKept, MayStopAtEach}
@@ -37,6 +38,10 @@ SparesRefused keeps old new moment request = ForKept keeps old (λ state. is_ref
 -- the cache keeps some state on the image
 abbrev pub KeepsAny : Cache → Image → Type 0
 KeepsAny cache image = (state : State) × HoldsState cache state image
+
+-- P holds of each state that the cache keeps, with the layout by which it keeps it
+abbrev pub ForLayout : Cache → Told → (State → Layout → Type 0) → Type 0
+ForLayout cache told P = ForSome told.files (λ image. (state : State) → (k : HoldsState cache state image) → P state k.layout)
 
 -- Failed checks.
 
@@ -110,6 +115,10 @@ IsOnSparse _ = ⊥
 abbrev pub FlushesClean : State → Request → Type 0
 FlushesClean state (to_flush handle) = (number : ℕ) × ((object : Object) × (Names state handle number object × (object.settled ≡ true)))
 FlushesClean state _ = ⊥
+
+-- where the request is a Flush of a clean object no step was made, whatever is answered
+abbrev pub StaysIfClean : Cache → (told now : Told) → Request → Type 0
+StaysIfClean cache told now request = ForKept (HoldsState cache) told (λ state. FlushesClean state request → Stays told now)
 
 -- Open.
 

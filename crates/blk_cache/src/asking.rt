@@ -1,14 +1,11 @@
 // The stream of an open object that a request names by a handle.
 ghost use Rattle.std.specs.Prelude.{◌≡◌, IfOk, IfSome, Ok};
-ghost use Rattle.std.specs.Option.{ForSome};
 ghost use Rattle.spec_image.specs.Told.{ReadsOnly};
 ghost use Rattle.blk_io.specs.Faults.{IfDamaged, IfDevice};
-ghost use Rattle.blk_model.specs.State.{State};
 ghost use Rattle.blk_object.specs.FailedChecks.{IsFailedCheck};
 ghost use Rattle.blk_cache.specs.Asking.{IsAskDamage, IsAsked, StandsAmong, early_stream_refusal, keeps_stream};
 ghost use Rattle.blk_cache.specs.declared.asking.Asked.TheVariants as asked;
-ghost use Rattle.blk_cache.specs.CacheKeeping.{HoldsState};
-ghost use Rattle.blk_cache.specs.CommandClauses.{KeepsAny, UndamagedWhere};
+ghost use Rattle.blk_cache.specs.CommandClauses.{ForLayout, KeepsAny, UndamagedWhere};
 
 use crate::cache::Cache;
 use blk_addr::Addr;
@@ -50,7 +47,7 @@ impl Cache {
         handle: u16,
         stream: u8,
     ) -> Result<Asked, Fault>
-        ensures asked { IfOk result (λ answer. ForSome (F.told folder.old).files (λ image. (state : State) → (k : HoldsState self.now state image) → IsAsked state k.layout handle stream answer)) }
+        ensures asked { IfOk result (λ answer. ForLayout self.now (F.told folder.old) (λ state layout. IsAsked state layout handle stream answer)) }
         ensures early { IfSome (early_stream_refusal self.now.handles handle stream) (λ why. result ≡ Ok (asked.Refused why)) }
         ensures stands { IfOk result (StandsAmong self.now.files stream) }
         ensures reads { ReadsOnly F.told F.faults folder.old folder.new (IfDevice result) }

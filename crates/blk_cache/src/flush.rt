@@ -6,10 +6,8 @@ ghost use Rattle.blk_io.specs.Faults.{IfDamaged, IfDevice};
 ghost use Rattle.blk_model.specs.Request.{to_flush};
 ghost use Rattle.blk_model.specs.declared.Answer.TheVariants as answer;
 ghost use Rattle.blk_disk.specs.Open.{IsOpen};
-ghost use Rattle.law_state.specs.Commands.{ForKept};
 ghost use Rattle.blk_object.specs.FailedChecks.{IsFailedCheck};
-ghost use Rattle.blk_cache.specs.CacheKeeping.{HoldsState};
-ghost use Rattle.blk_cache.specs.CommandClauses.{DoneBy, FlushesClean, ForCall, IsRefused, KeepsAny, SparedBy, StopsBy, UndamagedWhere};
+ghost use Rattle.blk_cache.specs.CommandClauses.{DoneBy, ForCall, IsRefused, KeepsAny, SparedBy, StaysIfClean, StopsBy, UndamagedWhere};
 ghost use Rattle.blk_cache.specs.Dooming.{doom_refusal};
 
 use crate::cache::Cache;
@@ -34,7 +32,7 @@ impl Cache {
         ensures unchanged { IfOk result (λ answer. IsRefused answer → self.new ≡ self.old) }
 
         // A Flush of a clean object does nothing either.
-        ensures idle { ForKept (HoldsState self.old) (F.told folder.old) (λ state. FlushesClean state (to_flush handle) → Stays (F.told folder.old) (F.told folder.new)) }
+        ensures idle { StaysIfClean self.old (F.told folder.old) (F.told folder.new) (to_flush handle) }
 
         ensures spares { (moment : ℕ) → ForCall self.old (F.told folder.old) moment (to_flush handle) (SparedBy (F.told folder.new) result) }
         ensures is_open { ForSome (F.told folder.new).files (IsOpen self.new.files) }

@@ -1,14 +1,11 @@
 // The live object that a request on sparse data names by a handle.
 ghost use Rattle.std.specs.Prelude.{◌≡◌, ◌&&◌, ◌==◌, IfOk, IfSome, Ok, slice_index};
-ghost use Rattle.std.specs.Option.{ForSome};
 ghost use Rattle.spec_image.specs.Told.{ReadsOnly};
 ghost use Rattle.blk_io.specs.Faults.{IfDamaged, IfDevice};
-ghost use Rattle.blk_model.specs.State.{State};
 ghost use Rattle.blk_object.specs.FailedChecks.{IsFailedCheck};
 ghost use Rattle.blk_cache.specs.SparseAsking.{FindsInside, IsAmongFiles, IsAskedSparse, early_sparse_refusal};
 ghost use Rattle.blk_cache.specs.declared.sparse_asking.AskedSparse.TheVariants as asked;
-ghost use Rattle.blk_cache.specs.CacheKeeping.{HoldsState};
-ghost use Rattle.blk_cache.specs.CommandClauses.{KeepsAny, UndamagedWhere};
+ghost use Rattle.blk_cache.specs.CommandClauses.{ForLayout, KeepsAny, UndamagedWhere};
 
 use crate::cache::Cache;
 use blk_addr::Addr;
@@ -53,7 +50,7 @@ impl Cache {
         offset: u64,
         count: u64,
     ) -> Result<AskedSparse, Fault>
-        ensures asked { IfOk result (λ answer. ForSome (F.told folder.old).files (λ image. (state : State) → (k : HoldsState self.now state image) → IsAskedSparse state k.layout handle offset count answer)) }
+        ensures asked { IfOk result (λ answer. ForLayout self.now (F.told folder.old) (λ state layout. IsAskedSparse state layout handle offset count answer)) }
         ensures early { IfSome (early_sparse_refusal self.now.handles handle offset count) (λ why. result ≡ Ok (asked.Refused why)) }
 
         // On every folder.

@@ -1,13 +1,10 @@
 // The object that a SparseWrite writes to.
 ghost use Rattle.std.specs.Prelude.{◌≡◌, IfOk, IfSome, Ok, length};
-ghost use Rattle.std.specs.Option.{ForSome};
 ghost use Rattle.spec_image.specs.Told.{ReadsOnly};
 ghost use Rattle.blk_io.specs.Faults.{IfDamaged, IfDevice};
-ghost use Rattle.blk_model.specs.State.{State};
 ghost use Rattle.blk_object.specs.FailedChecks.{IsFailedCheck};
 ghost use Rattle.blk_cache.specs.declared.sparse_target.AskedTarget.TheVariants as target;
-ghost use Rattle.blk_cache.specs.CacheKeeping.{HoldsState};
-ghost use Rattle.blk_cache.specs.CommandClauses.{KeepsAny, UndamagedWhere};
+ghost use Rattle.blk_cache.specs.CommandClauses.{ForLayout, KeepsAny, UndamagedWhere};
 ghost use Rattle.blk_cache.specs.SparseAsking.{early_sparse_refusal};
 ghost use Rattle.blk_cache.specs.SparseTargets.{FindsTarget, IsAskedTarget, asked_plain, asked_target};
 
@@ -40,7 +37,7 @@ impl Cache {
         bytes: &[u8],
         moment: u64,
     ) -> Result<AskedTarget, Fault>
-        ensures asked { IfOk result (λ answer. ForSome (F.told folder.old).files (λ image. (state : State) → (k : HoldsState self.now state image) → IsAskedTarget state k.layout moment handle offset bytes.now answer)) }
+        ensures asked { IfOk result (λ answer. ForLayout self.now (F.told folder.old) (λ state layout. IsAskedTarget state layout moment handle offset bytes.now answer)) }
         ensures early { IfSome (early_sparse_refusal self.now.handles handle offset (length bytes.now)) (λ why. result ≡ Ok (target.Refused why)) }
 
         // On every folder.

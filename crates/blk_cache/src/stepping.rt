@@ -15,8 +15,8 @@ ghost use Rattle.blk_script.specs.Reply.{outcome_text};
 ghost use Rattle.spec_run.specs.Progress.{NotesCommand};
 ghost use Rattle.spec_run.specs.Run.{at_moment};
 ghost use Rattle.spec_run.specs.Script.{is_refused};
-ghost use Rattle.blk_cache.specs.CacheKeeping.{KeepsState, HoldsState};
-ghost use Rattle.blk_cache.specs.CommandClauses.{DoneBy, FlushesClean, ForCall, IsOnSparse, IsRefused, KeepsAny, OnlyNotesChange, SparedBy, StopsBy, UndamagedWhere};
+ghost use Rattle.blk_cache.specs.CacheKeeping.{KeepsState};
+ghost use Rattle.blk_cache.specs.CommandClauses.{DoneBy, FlushesClean, ForCall, IsOnSparse, IsRefused, KeepsAny, OnlyNotesChange, SparedBy, StaysIfClean, StopsBy, UndamagedWhere};
 ghost use Rattle.blk_evict.specs.RoomPrinting.{FailsWhereItRose};
 ghost use Rattle.blk_cache.specs.Stepping.{FailsBefore, FrontBy, IfDone, IfSink, IfStepDamaged, IfStepDevice, SaidBy};
 
@@ -158,7 +158,7 @@ impl Cache {
         ensures failed { FailsWhereItRose failed.old failed.new (K.faults out.old) (K.faults out.new) }
         ensures quiet { IfOk result (λ answer. IsRefused answer → Stays (F.told folder.old) (F.told folder.new)) }
         ensures spares { ForCall self.old (F.told folder.old) moment (request_of command.now) (SparedBy (F.told folder.new) result) }
-        ensures idle { ForKept (HoldsState self.old) (F.told folder.old) (λ state. FlushesClean state (request_of command.now) → Stays (F.told folder.old) (F.told folder.new)) }
+        ensures idle { StaysIfClean self.old (F.told folder.old) (F.told folder.new) (request_of command.now) }
         ensures notes { self.new.notes ≡ self.old.notes }
         ensures mark { self.new.mark ≡ self.old.mark }
         ensures is_open { OnOk result (ForSome (F.told folder.new).files (IsOpen self.new.files)) }
@@ -226,7 +226,7 @@ impl Cache {
         ensures failed { FailsWhereItRose failed.old failed.new (K.faults out.old) (K.faults out.new) }
         ensures quiet { IfOk result (λ answer. IsRefused answer → Stays (F.told folder.old) (F.told folder.new)) }
         ensures spares { ForCall self.old (F.told folder.old) moment (request_of command.now) (SparedBy (F.told folder.new) result) }
-        ensures idle { ForKept (HoldsState self.old) (F.told folder.old) (λ state. FlushesClean state (request_of command.now) → Stays (F.told folder.old) (F.told folder.new)) }
+        ensures idle { StaysIfClean self.old (F.told folder.old) (F.told folder.new) (request_of command.now) }
         ensures notes { self.new.notes ≡ self.old.notes }
         ensures mark { self.new.mark ≡ self.old.mark }
         ensures is_open { OnOk result (ForSome (F.told folder.new).files (IsOpen self.new.files)) }

@@ -187,7 +187,7 @@ WherePartUnsettled told entry at offset cut bytes Q = ForPartUnsettled told entr
 abbrev pub WritesPartStream : (old new : Told) → (entry at offset : ℕ) (cut : Bool) (bytes : List ℕ) → Type 0
 WritesPartStream old new entry at offset cut bytes =
     ForPartUnsettled old entry at offset cut bytes (λ from state layout unlinked number object n value was role.
-        ForSome new.files (IsPartWrittenUncounted state layout unlinked number object n value was role at offset cut bytes from))
+    ForSome new.files (IsPartWrittenUncounted state layout unlinked number object n value was role at offset cut bytes from))
 
 -- at each step recovery gives the durable contents of the state before the write to a part
 abbrev pub StopsPartWriting : (old new : Told) → Image → State → Layout → List ℕ → ℕ → Object → (n : ℕ) → PartValue → Loaded → Role → Type 0

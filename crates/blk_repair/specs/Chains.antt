@@ -42,3 +42,7 @@ pub record AreChainsScanned (records ends : List ℕ) (whole : List Bool) (image
   pub keeps_all : KeepsAllWalked image
   pub are_kept : (bucket : ℕ) → bucket < table_length → records_of records ends bucket ≡ kept_records image bucket
   pub are_whole : (bucket : ℕ) → bucket < table_length → slice_index_or whole bucket false ≡ true → IsChain (store_of image) bucket (records_of records ends bucket)
+
+-- where `old` has the words of the buckets up to `read`, `new` has those up to `now`
+abbrev pub ReadsOnWords : (old new : List ℕ) → (bucket read now : ℕ) → Image → Type 0
+ReadsOnWords old new bucket read now image = AreBucketWords old bucket read image → AreBucketWords new bucket now image

@@ -1,9 +1,9 @@
 -- Recovery deletes the block files that aren't linked, and the external files that nothing uses.
-use Rattle.std.specs.Prelude.{ℕ, ◌≡◌, ◌^◌, Bool, true, false, not, ◌&&◌, nat_lt, if◌then◌else◌, List, [], ◌∷◌}
+use Rattle.std.specs.Prelude.{ℕ, ◌≡◌, ◌^◌, Bool, true, false, not, Some, ◌&&◌, nat_lt, if◌then◌else◌, List, [], ◌∷◌}
 use Rattle.std.specs.List.{filter}
 use Rattle.std.specs.Option.{ForSome}
 use Rattle.spec_image.specs.Image.{File, Index, Block, External, Image, has_file}
-use Rattle.spec_image.specs.Order.{IsBefore}
+use Rattle.spec_image.specs.Order.{IsBefore, IsNextFile}
 use Rattle.spec_image.specs.Steps.{TrailStep, Delete}
 use Rattle.spec_image.specs.Told.{Told, Applies}
 use Rattle.spec_format.specs.BlockFiles.{is_among}
@@ -85,3 +85,15 @@ pub record IsMidDeletion (entry from image : Image) : Type 0 where
   pub seals : StaysSealed from image
   pub only_linked : OnlyLinked from → OnlyLinked image
   pub only_claimed : OnlyClaimed from (claims_of_loaded (kept from)) → OnlyClaimed image (claims_of_loaded (kept image))
+
+-- `next` is the first file of an observable folder after `last`
+abbrev pub FindsNext : Told → (last next : File) → Type 0
+FindsNext told last next = ForSome told.files (λ image. IsNextFile image (Some last) (Some next))
+
+-- the image has no external file after `last`
+abbrev pub HasNoExternalAfter : (last : File) → Image → Type 0
+HasNoExternalAfter last image = (number : ℕ) → IsBefore last (External number) → has_file image (External number) ≡ false
+
+-- the external files that are there are those that the kept entries use
+abbrev pub HasOnlyClaimed : Image → Type 0
+HasOnlyClaimed image = OnlyClaimed image (claims_of_loaded (kept image))

@@ -8,3 +8,4 @@ pub mod Endings
 pub mod Maps
 pub mod Deletions
 pub mod Repair
+pub mod RepairClauses

@@ -2,13 +2,14 @@
 ghost use Rattle.std.specs.Prelude.{◌≡◌, ◌+◌, ◌%◌, ◌^◌, ◌<◌, ◌≤◌, ℕ, All, None, OnErr, OnOk, length};
 ghost use Rattle.std.specs.Option.{ForSome};
 ghost use Rattle.spec_image.specs.Bytes.{content, range_at, word_at};
-ghost use Rattle.spec_image.specs.Image.{Image, byte, Index as index};
+ghost use Rattle.spec_image.specs.Image.{byte, Index as index};
 ghost use Rattle.spec_image.specs.Told.{Applies, AppliesPrefix, MakesPartOf, PassesAny, Rises};
 ghost use Rattle.spec_format.specs.Headers.{HasWholeIndex, header_length};
 ghost use Rattle.spec_format.specs.Sealed.{AreDifferent};
 ghost use Rattle.blk_io.specs.Faults.{IfDamaged, IfDevice};
 ghost use Rattle.blk_repair.specs.Counters.{HasIndexWords, IsIndexMended, IsNextCounted, IsShortHeader, found_word_steps, index_steps, index_words_steps};
 ghost use Rattle.blk_repair.specs.Seals.{HasMendedLinksOf};
+ghost use Rattle.blk_repair.specs.RepairClauses.{DoesAll, ForEntry, Leaves, OnImage};
 
 use blk_index::set_word;
 use blk_io::{Failed, Fault, FileId, Folder, read_exact};
@@ -29,13 +30,13 @@ pub fn mend_index<F: Folder>(
 ) -> Result<(), Fault>
     requires complete { ForSome (F.told folder.old).files HasWholeIndex }
     ensures words { OnOk result (ForSome (F.told folder.new).files (HasIndexWords items bytes this_id)) }
-    ensures steps { OnOk result (ForSome (F.told folder.old).files (λ from. Applies (F.told folder.old) (F.told folder.new) (index_steps items bytes this_id from))) }
+    ensures steps { OnOk result (OnImage F.told folder.old folder.new (DoesAll (index_steps items bytes this_id))) }
     ensures prefix { MakesPartOf (F.told folder.old) (F.told folder.new) (λ from. index_steps items bytes this_id from) }
 
     // Where the links are repaired they stay so at each word, with the same kept and found; in the end the counters count what is kept, and what was repaired
     // of the files and of the checksums is so still.
-    ensures mended { OnOk result (ForSome (F.told folder.old).files (λ from. (entry : Image) → IsNextCounted entry items bytes from → ForSome (F.told folder.new).files (IsIndexMended entry from))) }
-    ensures stops { ForSome (F.told folder.old).files (λ from. (entry : Image) → HasMendedLinksOf entry from → PassesAny (F.told folder.old) (F.told folder.new) (HasMendedLinksOf entry)) }
+    ensures mended { OnOk result (ForEntry F.told folder.old folder.new (λ entry. IsNextCounted entry items bytes) (λ entry. Leaves (IsIndexMended entry))) }
+    ensures stops { ForEntry F.told folder.old folder.new HasMendedLinksOf (λ entry from old new. PassesAny old new (HasMendedLinksOf entry)) }
 
     ensures complete { ForSome (F.told folder.new).files HasWholeIndex }
 
@@ -73,7 +74,7 @@ fn set_words<F: Folder>(folder: &mut F, head: &[u8], words: &[(u64, u32)]) -> Re
     requires inside { All (λ (w : ℕ × ℕ). w.0 < header_length) words.now }
     requires different { AreDifferent words.now }
     requires complete { ForSome (F.told folder.old).files HasWholeIndex }
-    ensures steps { OnOk result (ForSome (F.told folder.old).files (λ from. Applies (F.told folder.old) (F.told folder.new) (index_words_steps words.now from))) }
+    ensures steps { OnOk result (OnImage F.told folder.old folder.new (DoesAll (index_words_steps words.now))) }
     ensures prefix { MakesPartOf (F.told folder.old) (F.told folder.new) (λ from. index_words_steps words.now from) }
     ensures complete { ForSome (F.told folder.new).files HasWholeIndex }
     ensures later { F.faults folder.old ≤ F.faults folder.new }

@@ -1,19 +1,16 @@
 // The files that nothing names are deleted: block files that aren't linked, and external files that aren't used.
-ghost use Rattle.std.specs.Prelude.{◌≡◌, ◌<◌, ◌≤◌, ℕ, None, Some, Ok, OnOk, OnErr, IfOk, false};
+ghost use Rattle.std.specs.Prelude.{◌≡◌, ◌<◌, ◌≤◌, ℕ, None, Ok, OnOk, OnErr, IfOk, false};
 ghost use Rattle.std.specs.Option.{ForSome};
-ghost use Rattle.spec_image.specs.Image.{Image, has_file, Block as block, External as external};
-ghost use Rattle.spec_image.specs.Order.{IsBefore, IsNextFile};
+ghost use Rattle.spec_image.specs.Image.{has_file, Block as block, External as external};
+ghost use Rattle.spec_image.specs.Order.{IsBefore};
 ghost use Rattle.spec_image.specs.Told.{Applies, Rises, Stays, ReadsOnly};
 ghost use Rattle.blk_io.specs.FileNames.{file_of};
-ghost use Rattle.spec_folder.specs.Found.{kept};
-ghost use Rattle.spec_folder.specs.Loads.{claims_of_loaded};
-ghost use Rattle.spec_folder.specs.Sound.{OnlyClaimed, OnlyLinked};
+ghost use Rattle.spec_folder.specs.Sound.{OnlyLinked};
 ghost use Rattle.blk_disk.specs.declared.tables.BlockFiles.{BlockFiles};
 ghost use Rattle.blk_disk.specs.Open.{IsOpen};
-ghost use Rattle.blk_repair.specs.Deletions.{DeletesAll, DeletesSome, IsMidDeletion, deletion_of, is_number_claimed, is_unclaimed, is_unlinked, last_block_file, last_first_file};
-ghost use Rattle.blk_repair.specs.Endings.{RepairBreaksOff};
-ghost use Rattle.blk_repair.specs.Maps.{IsNextRebuilt};
+ghost use Rattle.blk_repair.specs.Deletions.{DeletesAll, DeletesSome, FindsNext, HasNoExternalAfter, HasOnlyClaimed, IsMidDeletion, deletion_of, is_number_claimed, is_unclaimed, is_unlinked, last_block_file, last_first_file};
 ghost use Rattle.blk_repair.specs.Seals.{HasMendedLinksOf};
+ghost use Rattle.blk_repair.specs.RepairClauses.{ForEntry, Leaves, StaysWhere, StopsWith, WhereRebuilt};
 
 use blk_addr::{Addr, Claims, LAST_EXTERNAL};
 use blk_disk::BlockFiles;
@@ -34,7 +31,7 @@ pub fn delete_unlinked<F: Folder>(folder: &mut F, files: &BlockFiles) -> Result<
 
     // Where the links are repaired they stay so at each deletion, with the same kept and found, and the crash word is spared; and what was repaired of the
     // files and of the checksums is so still.
-    ensures stops { ForSome (F.told folder.old).files (λ from. (entry : Image) → HasMendedLinksOf entry from → RepairBreaksOff (F.told folder.old) (F.told folder.new) (IsMidDeletion entry from)) }
+    ensures stops { ForEntry F.told folder.old folder.new HasMendedLinksOf (λ entry. StopsWith (IsMidDeletion entry)) }
 
     ensures is_open { ForSome (F.told folder.new).files (IsOpen files.now) }
 
@@ -59,18 +56,18 @@ pub fn delete_unlinked<F: Folder>(folder: &mut F, files: &BlockFiles) -> Result<
 /// was then made.
 pub fn delete_unclaimed<F: Folder>(folder: &mut F, claims: &Claims) -> Result<(), Failed>
     // With the used blocks of what is kept, the external files that are there are those that it uses.
-    ensures claimed { OnOk result (ForSome (F.told folder.old).files (λ from. (entry : Image) → IsNextRebuilt entry claims.now from → ForSome (F.told folder.new).files (λ image. OnlyClaimed image (claims_of_loaded (kept image))))) }
+    ensures claimed { OnOk result (WhereRebuilt F.told folder.old folder.new claims.now (λ entry. Leaves (λ from. HasOnlyClaimed))) }
     ensures steps { OnOk result (DeletesAll (is_unclaimed claims.now) last_block_file (F.told folder.old) (F.told folder.new)) }
     ensures prefix { DeletesSome (is_unclaimed claims.now) last_block_file (F.told folder.old) (F.told folder.new) }
 
     // The links then stay repaired at each deletion, with the same kept and found, and the crash word is spared; and what was repaired of the files and of the
     // checksums is so still.
-    ensures stops { ForSome (F.told folder.old).files (λ from. (entry : Image) → IsNextRebuilt entry claims.now from → RepairBreaksOff (F.told folder.old) (F.told folder.new) (IsMidDeletion entry from)) }
+    ensures stops { WhereRebuilt F.told folder.old folder.new claims.now (λ entry. StopsWith (IsMidDeletion entry)) }
 
     ensures is_open { (files : BlockFiles) → ForSome (F.told folder.old).files (IsOpen files) → ForSome (F.told folder.new).files (IsOpen files) }
 
     // Where only external files that what is kept uses are there already, no step is made.
-    ensures clean { ForSome (F.told folder.old).files (λ from. (entry : Image) → IsNextRebuilt entry claims.now from → OnlyClaimed from (claims_of_loaded (kept from)) → Stays (F.told folder.old) (F.told folder.new)) }
+    ensures clean { WhereRebuilt F.told folder.old folder.new claims.now (λ entry. StaysWhere HasOnlyClaimed) }
 
     ensures later { F.faults folder.old ≤ F.faults folder.new }
     ensures failed { OnErr result (Rises (F.faults folder.old) (F.faults folder.new)) }
@@ -86,7 +83,7 @@ pub fn delete_unclaimed<F: Folder>(folder: &mut F, claims: &Claims) -> Result<()
 // The first existing block file after one.
 fn next_block<F: Folder>(folder: &mut F, last: u8) -> Result<Option<u8>, Failed>
     ensures after { IfOk result (λ next. ForSome next (λ n. last < n)) }
-    ensures next { IfOk result (λ next. ForSome next (λ n. ForSome (F.told folder.old).files (λ image. IsNextFile image (Some (block last)) (Some (block n))))) }
+    ensures next { IfOk result (λ next. ForSome next (λ n. FindsNext (F.told folder.old) (block last) (block n))) }
     ensures none { result ≡ Ok None → ForSome (F.told folder.old).files (λ image. (n : ℕ) → last < n → has_file image (block n) ≡ false) }
     ensures reads { ReadsOnly F.told F.faults folder.old folder.new (OnErr result) }
 {
@@ -113,8 +110,8 @@ fn delete_block<F: Folder>(folder: &mut F, files: &BlockFiles, n: u8) -> Result<
 fn next_external<F: Folder>(folder: &mut F, last: FileId) -> Result<Option<u32>, Failed>
     requires past { IsBefore (file_of last) last_block_file → ⊥ }
     ensures after { IfOk result (λ next. ForSome next (λ number. IsBefore (file_of last) (external number))) }
-    ensures next { IfOk result (λ next. ForSome next (λ number. ForSome (F.told folder.old).files (λ image. IsNextFile image (Some (file_of last)) (Some (external number))))) }
-    ensures none { result ≡ Ok None → ForSome (F.told folder.old).files (λ image. (number : ℕ) → IsBefore (file_of last) (external number) → has_file image (external number) ≡ false) }
+    ensures next { IfOk result (λ next. ForSome next (λ number. FindsNext (F.told folder.old) (file_of last) (external number))) }
+    ensures none { result ≡ Ok None → ForSome (F.told folder.old).files (HasNoExternalAfter (file_of last)) }
     ensures reads { ReadsOnly F.told F.faults folder.old folder.new (OnErr result) }
 {
     match folder.list(Some(last))? {

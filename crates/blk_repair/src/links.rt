@@ -1,9 +1,9 @@
 // The words by which chains are linked: those of the table, and the nexts of records. Each is written only where it differs.
-ghost use Rattle.std.specs.Prelude.{◌≡◌, ◌≤◌, ◌⊎◌, None, OnErr, OnOk, true};
+ghost use Rattle.std.specs.Prelude.{◌≡◌, ◌≤◌, ◌⊎◌, OnErr, OnOk, true};
 ghost use Rattle.std.specs.Option.{ForSome};
 ghost use Rattle.spec_image.specs.Image.{Index as index};
 ghost use Rattle.spec_image.specs.Steps.{word_step};
-ghost use Rattle.spec_image.specs.Told.{Applies, AppliesPrefix, MakesPartOf, Rises};
+ghost use Rattle.spec_image.specs.Told.{AppliesPrefix, MakesPartOf, Rises};
 ghost use Rattle.spec_format.specs.Headers.{HasWholeIndex, place_of_bucket};
 ghost use Rattle.spec_format.specs.Sealed.{RecordChecks};
 ghost use Rattle.spec_folder.specs.View.{store_of};
@@ -14,6 +14,7 @@ ghost use Rattle.blk_disk.specs.Open.{IsOpen};
 ghost use Rattle.law_recovery.specs.ChainRepair.{bucket_steps, next_steps};
 ghost use Rattle.blk_repair.specs.Chains.{IsBucketWord};
 ghost use Rattle.blk_repair.specs.Damages.{IsFailedLink};
+ghost use Rattle.blk_repair.specs.RepairClauses.{DoesAll, DoesPrefix, NoDamageWhere, OnImage, Where};
 
 use blk_addr::Addr;
 use blk_disk::BlockFiles;
@@ -40,8 +41,8 @@ pub(crate) fn set_front<F: Folder>(
     word: u32,
 ) -> Result<(), Failed>
     requires complete { ForSome (F.told folder.old).files HasWholeIndex }
-    ensures steps { OnOk result (ForSome (F.told folder.old).files (λ from. IsBucketWord now number from → Applies (F.told folder.old) (F.told folder.new) (bucket_steps number word from))) }
-    ensures prefix { ForSome (F.told folder.old).files (λ from. IsBucketWord now number from → AppliesPrefix (F.told folder.old) (F.told folder.new) (bucket_steps number word from)) }
+    ensures steps { OnOk result (Where F.told folder.old folder.new (IsBucketWord now number) (DoesAll (bucket_steps number word))) }
+    ensures prefix { Where F.told folder.old folder.new (IsBucketWord now number) (DoesPrefix (bucket_steps number word)) }
 
     // On any folder, observable or not, at most this word is written.
     ensures only { AppliesPrefix (F.told folder.old) (F.told folder.new) (word_step index (place_of_bucket number) word) }
@@ -65,10 +66,10 @@ pub(crate) fn set_next<F: Folder>(
     requires stands { is_record_among files.now entry ≡ true }
     requires is_open { ForSome (F.told folder.old).files (IsOpen files.now) }
     ensures checked { OnOk result (ForSome (F.told folder.old).files (λ image. ((store_of image).chain_next entry ≡ word) ⊎ RecordChecks entry image)) }
-    ensures steps { OnOk result (ForSome (F.told folder.old).files (λ from. Applies (F.told folder.old) (F.told folder.new) (next_steps entry word from))) }
+    ensures steps { OnOk result (OnImage F.told folder.old folder.new (DoesAll (next_steps entry word))) }
     ensures prefix { MakesPartOf (F.told folder.old) (F.told folder.new) (λ from. next_steps entry word from) }
     ensures damaged { IfDamaged result (IsFailedLink files.now (F.told folder.new)) }
-    ensures untold { ForSome (F.told folder.old).files (RecordChecks entry) → IfDamaged result (λ _. (F.told folder.old).files ≡ None) }
+    ensures untold { NoDamageWhere result (F.told folder.old) (RecordChecks entry) }
     ensures later { F.faults folder.old ≤ F.faults folder.new }
     ensures device { IfDevice result (Rises (F.faults folder.old) (F.faults folder.new)) }
 {

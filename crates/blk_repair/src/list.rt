@@ -1,7 +1,7 @@
 // The LRU list is recovered.
-ghost use Rattle.std.specs.Prelude.{◌≡◌, ◌≤◌, None, OnOk, All, true};
+ghost use Rattle.std.specs.Prelude.{◌≡◌, ◌≤◌, OnOk, All, true};
 ghost use Rattle.std.specs.Option.{ForSome};
-ghost use Rattle.spec_image.specs.Told.{Applies, MakesPartOf, Passes, Rises};
+ghost use Rattle.spec_image.specs.Told.{MakesPartOf, Rises};
 ghost use Rattle.blk_io.specs.Faults.{IfDamaged, IfDevice};
 ghost use Rattle.blk_disk.specs.Open.{IsOpen};
 ghost use Rattle.blk_disk.specs.Tables.{is_node_among};
@@ -9,6 +9,7 @@ ghost use Rattle.blk_lru.specs.Lists.{last_node_of};
 ghost use Rattle.law_recovery.specs.ListRepair.{HoldsTheSame, IsListMended};
 ghost use Rattle.blk_repair.specs.Damages.{IsListRepairDamage};
 ghost use Rattle.blk_repair.specs.Removals.{IsListScanned, mending_steps};
+ghost use Rattle.blk_repair.specs.RepairClauses.{DoesAll, HoldsAlong, Leaves, NoDamageWhere, OnImage, Where};
 
 use crate::removals::remove_others;
 use blk_addr::Addr;
@@ -29,19 +30,19 @@ pub fn mend_list<F: Folder>(
 ) -> Result<(), Fault>
     requires stand { All (λ w. is_node_among files.now w ≡ true) walked.now }
     requires is_open { ForSome (F.told folder.old).files (IsOpen files.now) }
-    ensures steps { OnOk result (ForSome (F.told folder.old).files (λ from. Applies (F.told folder.old) (F.told folder.new) (mending_steps walked.now kept.now from))) }
+    ensures steps { OnOk result (OnImage F.told folder.old folder.new (DoesAll (mending_steps walked.now kept.now))) }
     ensures prefix { MakesPartOf (F.told folder.old) (F.told folder.new) (mending_steps walked.now kept.now) }
 
     // With the walked and the kept nodes of the folder the list is repaired in the end, and the same is kept and found at each
     // word.
-    ensures mended { OnOk result (ForSome (F.told folder.old).files (λ from. IsListScanned walked.now kept.now from → ForSome (F.told folder.new).files (IsListMended from))) }
-    ensures stops { ForSome (F.told folder.old).files (λ from. IsListScanned walked.now kept.now from → Passes (F.told folder.old) (F.told folder.new) (HoldsTheSame from)) }
+    ensures mended { OnOk result (Where F.told folder.old folder.new (IsListScanned walked.now kept.now) (Leaves IsListMended)) }
+    ensures stops { Where F.told folder.old folder.new (IsListScanned walked.now kept.now) (HoldsAlong HoldsTheSame) }
 
     ensures is_open { ForSome (F.told folder.new).files (IsOpen files.now) }
 
     // An observable folder reports corruption only where these aren't its walked and kept nodes.
     ensures damaged { IfDamaged result (IsListRepairDamage files.now (F.told folder.new)) }
-    ensures untold { ForSome (F.told folder.old).files (IsListScanned walked.now kept.now) → IfDamaged result (λ _. (F.told folder.old).files ≡ None) }
+    ensures untold { NoDamageWhere result (F.told folder.old) (IsListScanned walked.now kept.now) }
 
     ensures later { F.faults folder.old ≤ F.faults folder.new }
     ensures device { IfDevice result (Rises (F.faults folder.old) (F.faults folder.new)) }

@@ -1,16 +1,16 @@
 // The lengths, maps and counters of the block files are rebuilt from what is kept.
 ghost use Rattle.std.specs.Prelude.{◌≡◌, ℕ, None, OnOk};
 ghost use Rattle.std.specs.Option.{ForSome};
-ghost use Rattle.spec_image.specs.Image.{Image};
-ghost use Rattle.spec_image.specs.Told.{Passes, Stays, MayWrite};
+ghost use Rattle.spec_image.specs.Told.{Stays, MayWrite};
 ghost use Rattle.blk_io.specs.Faults.{IfDamaged, IfDevice};
 ghost use Rattle.blk_disk.specs.Open.{IsOpen};
 ghost use Rattle.blk_disk.specs.Tables.{all_files, files_of};
 ghost use Rattle.blk_alloc.specs.Extending.{KeepsStanding};
 ghost use Rattle.blk_alloc.specs.Rebuilding.{AreFitted, AreRight, IsShortReadOf};
 ghost use Rattle.law_recovery.specs.MendedChanges.{KeepsMendedLinks};
-ghost use Rattle.blk_repair.specs.Maps.{AreFilesMended, IsNextRebuilt, Rebuilds};
+ghost use Rattle.blk_repair.specs.Maps.{AreFilesMended, Rebuilds};
 ghost use Rattle.blk_repair.specs.Parts.{AppliesOf};
+ghost use Rattle.blk_repair.specs.RepairClauses.{ForEntry, HoldsAlong, Leaves, OnImage, WhereRebuilt};
 
 use blk_addr::Claims;
 use blk_alloc::rebuild;
@@ -35,12 +35,12 @@ pub fn mend_files<F: Folder>(
     ensures fitted { OnOk result (AreFitted files.old files.new) }
 
     // A step is made only where it is needed, and none but on lengths, maps, counters and updating.
-    ensures rebuilds { ForSome (F.told folder.old).files (λ from. AppliesOf (Rebuilds files.old claims.now) from (F.told folder.old) (F.told folder.new)) }
+    ensures rebuilds { OnImage F.told folder.old folder.new (AppliesOf (Rebuilds files.old claims.now)) }
 
     // Where the links are repaired they stay so at each word, with the same kept and found; where the used blocks are those of what is kept the files are
     // repaired in the end, and what had its checksum has it still.
-    ensures mended { OnOk result (ForSome (F.told folder.old).files (λ from. (entry : Image) → IsNextRebuilt entry claims.now from → ForSome (F.told folder.new).files (AreFilesMended entry from))) }
-    ensures stops { ForSome (F.told folder.old).files (λ from. (entry : Image) → KeepsMendedLinks entry from → Passes (F.told folder.old) (F.told folder.new) (KeepsMendedLinks entry)) }
+    ensures mended { OnOk result (WhereRebuilt F.told folder.old folder.new claims.now (λ entry. Leaves (AreFilesMended entry))) }
+    ensures stops { ForEntry F.told folder.old folder.new KeepsMendedLinks (λ entry from. HoldsAlong KeepsMendedLinks entry) }
     ensures is_open { ForSome (F.told folder.new).files (IsOpen files.new) }
 
     // Where each file has all its blocks, and its map and its counters are right, no step is made.

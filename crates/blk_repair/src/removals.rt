@@ -1,14 +1,15 @@
 // The nodes that aren't kept are removed from the LRU list.
-ghost use Rattle.std.specs.Prelude.{◌≡◌, ◌≤◌, None, OnOk, All, drop, true};
+ghost use Rattle.std.specs.Prelude.{◌≡◌, ◌≤◌, OnOk, All, drop, true};
 ghost use Rattle.std.specs.Option.{ForSome};
 ghost use Rattle.spec_image.specs.Image.{Image};
-ghost use Rattle.spec_image.specs.Told.{Applies, MakesPartOf, Passes, Rises};
+ghost use Rattle.spec_image.specs.Told.{MakesPartOf, Rises};
 ghost use Rattle.blk_io.specs.Faults.{IfDamaged, IfDevice};
 ghost use Rattle.blk_disk.specs.Open.{IsOpen};
 ghost use Rattle.blk_disk.specs.Tables.{is_node_among};
 ghost use Rattle.law_recovery.specs.ListRepair.{HoldsTheSame, IsListMended, all_but, is_first, removal_steps};
 ghost use Rattle.blk_repair.specs.Damages.{IsRemovalsDamage};
 ghost use Rattle.blk_repair.specs.Removals.{IsEndedList};
+ghost use Rattle.blk_repair.specs.RepairClauses.{DoesAll, HoldsAlong, Leaves, NoDamageWhere, OnImage, WhereEnded};
 
 use blk_addr::Addr;
 use blk_disk::BlockFiles;
@@ -27,19 +28,19 @@ pub fn remove_others<F: Folder>(
 ) -> Result<(), Fault>
     requires stand { All (λ w. is_node_among files.now w ≡ true) walked.now }
     requires is_open { ForSome (F.told folder.old).files (IsOpen files.now) }
-    ensures steps { OnOk result (ForSome (F.told folder.old).files (λ from. Applies (F.told folder.old) (F.told folder.new) (removal_steps (all_but walked.now kept.now) from))) }
+    ensures steps { OnOk result (OnImage F.told folder.old folder.new (DoesAll (removal_steps (all_but walked.now kept.now)))) }
     ensures prefix { MakesPartOf (F.told folder.old) (F.told folder.new) (λ from. removal_steps (all_but walked.now kept.now) from) }
 
     // Where the list was ended with the walked nodes, it is repaired in the end, and the same is kept and found at each
     // word.
-    ensures mended { OnOk result (ForSome (F.told folder.old).files (λ from. (entry : Image) → IsEndedList entry walked.now kept.now from → ForSome (F.told folder.new).files (IsListMended entry))) }
-    ensures stops { ForSome (F.told folder.old).files (λ from. (entry : Image) → IsEndedList entry walked.now kept.now from → Passes (F.told folder.old) (F.told folder.new) (HoldsTheSame entry)) }
+    ensures mended { OnOk result (WhereEnded F.told folder.old folder.new walked.now kept.now (λ entry from. Leaves IsListMended entry)) }
+    ensures stops { WhereEnded F.told folder.old folder.new walked.now kept.now (λ entry from. HoldsAlong HoldsTheSame entry) }
 
     ensures is_open { ForSome (F.told folder.new).files (IsOpen files.now) }
 
     // An observable folder reports corruption only where the list wasn't ended with the walked nodes.
     ensures damaged { IfDamaged result (IsRemovalsDamage files.now (F.told folder.new)) }
-    ensures untold { ForSome (F.told folder.old).files (λ from. (entry : Image) × IsEndedList entry walked.now kept.now from) → IfDamaged result (λ _. (F.told folder.old).files ≡ None) }
+    ensures untold { NoDamageWhere result (F.told folder.old) (λ from. (entry : Image) × IsEndedList entry walked.now kept.now from) }
 
     ensures later { F.faults folder.old ≤ F.faults folder.new }
     ensures device { IfDevice result (Rises (F.faults folder.old) (F.faults folder.new)) }

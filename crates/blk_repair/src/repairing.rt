@@ -1,9 +1,8 @@
 // The whole recovery of a folder.
 ghost use Rattle.std.specs.Prelude.{◌≡◌, ◌%◌, ◌^◌, ℕ, None, OnOk, OnErr, All};
 ghost use Rattle.std.specs.Option.{ForSome};
-ghost use Rattle.spec_image.specs.Image.{Image, Index as index, byte};
-ghost use Rattle.spec_image.specs.Told.{Applies, Stays, MayWrite};
-ghost use Rattle.spec_format.specs.Headers.{this_id_of};
+ghost use Rattle.spec_image.specs.Image.{Image};
+ghost use Rattle.spec_image.specs.Told.{MayWrite};
 ghost use Rattle.spec_format.specs.Session.{session_after};
 ghost use Rattle.blk_io.specs.Faults.{IfDamaged, IfDevice};
 ghost use Rattle.blk_disk.specs.Open.{IsOpen};
@@ -19,10 +18,9 @@ ghost use Rattle.law_recovery.specs.MendedLinks.{HasMendedLinks};
 ghost use Rattle.blk_scan.specs.Scans.{ChainsStandIf, StandAmong};
 ghost use Rattle.blk_repair.specs.Damages.{IsChainsRepairDamage};
 ghost use Rattle.blk_repair.specs.Deletions.{DeletesOthers};
-ghost use Rattle.blk_repair.specs.Endings.{RepairBreaksOff, EndsOrBreaksOff, EndsWithCrashWord};
-ghost use Rattle.blk_repair.specs.Maps.{IsNextRebuilt};
-ghost use Rattle.blk_repair.specs.Parts.{AppliesOf, InTurn};
-ghost use Rattle.blk_repair.specs.Repair.{AreBucketsScanned, AreLinksMended, AreOnlyKeptLeft, AreOthersDeleted, IsBehindRepairDamage, IsLinksRepairDamage, IsNextFinished, IsRepairDamage, IsRepairable, IsRepaired, IsRepairedFor, IsRestRepairDamage, MendsFiles, MendsLinks, MendsRest, NeedsOnlyWords, RepairsInOrder, counting_steps};
+ghost use Rattle.blk_repair.specs.Parts.{AppliesOf};
+ghost use Rattle.blk_repair.specs.Repair.{AreBucketsScanned, AreLinksMended, AreOnlyKeptLeft, AreOthersDeleted, IsBehindRepairDamage, IsLinksRepairDamage, IsNextFinished, IsRepairDamage, IsRepairable, IsRepaired, IsRepairedFor, IsRestRepairDamage, MendsFiles, MendsLinks, MendsRest};
+ghost use Rattle.blk_repair.specs.RepairClauses.{DoesAll, EndsOrStopsRepair, EndsRepair, ForEntry, Leaves, NoDamageWhere, OnImage, RepairsAll, RepairsBehind, SetsOnlyWords, StaysWhere, StaysWhereBoth, StopsWith, Where, WhereRebuilt, next_id_of};
 
 use crate::counters::mend_index;
 use crate::deletions::{delete_unclaimed, delete_unlinked};
@@ -55,23 +53,23 @@ pub fn repair<F: Folder>(f: &mut F, files: &mut BlockFiles, scan: &Scan) -> Resu
 
     // With the scan of a well-formed folder nothing is left to repair in the end, and at each word the same is kept and
     // found.
-    ensures mended { OnOk result (ForSome (F.told f.old).files (λ from. IsRepairable scan.now from → ForSome (F.told f.new).files (IsRepaired from))) }
+    ensures mended { OnOk result (Where F.told f.old f.new (IsRepairable scan.now) (Leaves IsRepaired)) }
 
     // Where the recovery is cut short, the crash word wasn't written, or the last step wrote it, and all is repaired as at the end.
-    ensures stops { ForSome (F.told f.old).files (λ from. IsRepairable scan.now from → EndsOrBreaksOff (F.told f.old) (F.told f.new) (IsMidRepair from) (IsRepaired from)) }
+    ensures stops { Where F.told f.old f.new (IsRepairable scan.now) (λ from. EndsOrStopsRepair (next_id_of from) from) }
 
     // The steps are those of the parts, in their order; the last makes the crash word 1, and no other writes inside it.
-    ensures steps { OnOk result (ForSome (F.told f.old).files (λ from. IsRepairable scan.now from → AppliesOf (RepairsInOrder files.old scan.now from (id_after (this_id_of (byte from index)))) from (F.told f.old) (F.told f.new))) }
-    ensures last { OnOk result (ForSome (F.told f.old).files (λ from. IsRepairable scan.now from → EndsWithCrashWord (F.told f.old) (F.told f.new) (IsMidRepair from) (IsRepaired from))) }
+    ensures steps { OnOk result (Where F.told f.old f.new (IsRepairable scan.now) (λ from. RepairsAll files.old scan.now (next_id_of from) from)) }
+    ensures last { OnOk result (Where F.told f.old f.new (IsRepairable scan.now) (λ from. EndsRepair (next_id_of from) from)) }
 
     ensures is_open { ForSome (F.told f.new).files (IsOpen files.new) }
 
     // Where nothing else is to be repaired, the only steps are those of the words of the index.
-    ensures clean { OnOk result (ForSome (F.told f.old).files (λ from. IsRepairable scan.now from → NeedsOnlyWords scan.now from → Applies (F.told f.old) (F.told f.new) (counting_steps from (id_after (this_id_of (byte from index))) from))) }
+    ensures clean { OnOk result (Where F.told f.old f.new (IsRepairable scan.now) (λ from. SetsOnlyWords scan.now (next_id_of from) from from)) }
 
     // An observable folder reports corruption only where the scan isn't its own.
     ensures damaged { IfDamaged result (IsRepairDamage files.new (F.told f.new)) }
-    ensures untold { ForSome (F.told f.old).files (IsRepairable scan.now) → IfDamaged result (λ _. (F.told f.old).files ≡ None) }
+    ensures untold { NoDamageWhere result (F.told f.old) (IsRepairable scan.now) }
 
     ensures writes { MayWrite F.told F.faults f.old f.new (IfDevice result) }
 {
@@ -101,14 +99,14 @@ fn mend_all<F: Folder>(
     ensures all { (kind : ℕ) → files_of files.new kind ≡ files_of files.old kind }
     ensures keeps { KeepsStanding files.old files.new }
     ensures fitted { OnOk result (AreFitted files.old files.new) }
-    ensures mended { OnOk result (ForSome (F.told folder.old).files (λ from. IsRepairable scan.now from → ForSome (F.told folder.new).files (IsRepairedFor this_id from))) }
-    ensures stops { ForSome (F.told folder.old).files (λ from. IsRepairable scan.now from → EndsOrBreaksOff (F.told folder.old) (F.told folder.new) (IsMidRepair from) (IsRepairedFor this_id from)) }
-    ensures last { OnOk result (ForSome (F.told folder.old).files (λ from. IsRepairable scan.now from → EndsWithCrashWord (F.told folder.old) (F.told folder.new) (IsMidRepair from) (IsRepairedFor this_id from))) }
-    ensures steps { OnOk result (ForSome (F.told folder.old).files (λ from. IsRepairable scan.now from → AppliesOf (RepairsInOrder files.old scan.now from this_id) from (F.told folder.old) (F.told folder.new))) }
+    ensures mended { OnOk result (Where F.told folder.old folder.new (IsRepairable scan.now) (Leaves (IsRepairedFor this_id))) }
+    ensures stops { Where F.told folder.old folder.new (IsRepairable scan.now) (EndsOrStopsRepair this_id) }
+    ensures last { OnOk result (Where F.told folder.old folder.new (IsRepairable scan.now) (EndsRepair this_id)) }
+    ensures steps { OnOk result (Where F.told folder.old folder.new (IsRepairable scan.now) (RepairsAll files.old scan.now this_id)) }
     ensures is_open { ForSome (F.told folder.new).files (IsOpen files.new) }
-    ensures clean { OnOk result (ForSome (F.told folder.old).files (λ from. IsRepairable scan.now from → NeedsOnlyWords scan.now from → Applies (F.told folder.old) (F.told folder.new) (counting_steps from this_id from))) }
+    ensures clean { OnOk result (Where F.told folder.old folder.new (IsRepairable scan.now) (λ from. SetsOnlyWords scan.now this_id from from)) }
     ensures damaged { IfDamaged result (IsRepairDamage files.new (F.told folder.new)) }
-    ensures untold { ForSome (F.told folder.old).files (IsRepairable scan.now) → IfDamaged result (λ _. (F.told folder.old).files ≡ None) }
+    ensures untold { NoDamageWhere result (F.told folder.old) (IsRepairable scan.now) }
     ensures writes { MayWrite F.told F.faults folder.old folder.new (IfDevice result) }
 {
     mend_links(folder, files, scan)?;
@@ -127,14 +125,14 @@ fn mend_behind<F: Folder>(
     ensures all { (kind : ℕ) → files_of files.new kind ≡ files_of files.old kind }
     ensures keeps { KeepsStanding files.old files.new }
     ensures fitted { OnOk result (AreFitted files.old files.new) }
-    ensures mended { OnOk result (ForSome (F.told folder.old).files (λ from. (entry : Image) → AreLinksMended scan.now entry from → ForSome (F.told folder.new).files (IsRepairedFor this_id entry))) }
-    ensures stops { ForSome (F.told folder.old).files (λ from. (entry : Image) → AreLinksMended scan.now entry from → EndsOrBreaksOff (F.told folder.old) (F.told folder.new) (IsMidRepair entry) (IsRepairedFor this_id entry)) }
-    ensures last { OnOk result (ForSome (F.told folder.old).files (λ from. (entry : Image) → AreLinksMended scan.now entry from → EndsWithCrashWord (F.told folder.old) (F.told folder.new) (IsMidRepair entry) (IsRepairedFor this_id entry))) }
-    ensures steps { OnOk result (ForSome (F.told folder.old).files (λ from. (entry : Image) → AreLinksMended scan.now entry from → AppliesOf (InTurn (MendsFiles files.old scan.now.claims) (MendsRest scan.now entry this_id)) from (F.told folder.old) (F.told folder.new))) }
+    ensures mended { OnOk result (ForEntry F.told folder.old folder.new (AreLinksMended scan.now) (λ entry from. Leaves (IsRepairedFor this_id) entry)) }
+    ensures stops { ForEntry F.told folder.old folder.new (AreLinksMended scan.now) (λ entry from. EndsOrStopsRepair this_id entry) }
+    ensures last { OnOk result (ForEntry F.told folder.old folder.new (AreLinksMended scan.now) (λ entry from. EndsRepair this_id entry)) }
+    ensures steps { OnOk result (ForEntry F.told folder.old folder.new (AreLinksMended scan.now) (RepairsBehind files.old scan.now this_id)) }
     ensures is_open { ForSome (F.told folder.new).files (IsOpen files.new) }
-    ensures clean { OnOk result (ForSome (F.told folder.old).files (λ from. (entry : Image) → AreLinksMended scan.now entry from → NeedsOnlyWords scan.now from → Applies (F.told folder.old) (F.told folder.new) (counting_steps entry this_id from))) }
+    ensures clean { OnOk result (ForEntry F.told folder.old folder.new (AreLinksMended scan.now) (SetsOnlyWords scan.now this_id)) }
     ensures damaged { IfDamaged result (IsBehindRepairDamage files.new (F.told folder.new)) }
-    ensures untold { ForSome (F.told folder.old).files (λ from. (entry : Image) × AreLinksMended scan.now entry from) → IfDamaged result (λ _. (F.told folder.old).files ≡ None) }
+    ensures untold { NoDamageWhere result (F.told folder.old) (λ from. (entry : Image) × AreLinksMended scan.now entry from) }
     ensures writes { MayWrite F.told F.faults folder.old folder.new (IfDevice result) }
 {
     mend_store(folder, files, scan.claims())?;
@@ -151,11 +149,11 @@ fn mend_store<F: Folder>(
     ensures all { (kind : ℕ) → files_of files.new kind ≡ files_of files.old kind }
     ensures keeps { KeepsStanding files.old files.new }
     ensures fitted { OnOk result (AreFitted files.old files.new) }
-    ensures mended { OnOk result (ForSome (F.told folder.old).files (λ from. (entry : Image) → IsNextRebuilt entry claims.now from → ForSome (F.told folder.new).files (AreOnlyKeptLeft entry from))) }
-    ensures stops { ForSome (F.told folder.old).files (λ from. (entry : Image) → IsNextRebuilt entry claims.now from → RepairBreaksOff (F.told folder.old) (F.told folder.new) (IsMidRepair entry)) }
-    ensures steps { OnOk result (ForSome (F.told folder.old).files (λ from. AppliesOf (MendsFiles files.old claims.now) from (F.told folder.old) (F.told folder.new))) }
+    ensures mended { OnOk result (WhereRebuilt F.told folder.old folder.new claims.now (λ entry. Leaves (AreOnlyKeptLeft entry))) }
+    ensures stops { WhereRebuilt F.told folder.old folder.new claims.now (λ entry from. StopsWith IsMidRepair entry) }
+    ensures steps { OnOk result (OnImage F.told folder.old folder.new (AppliesOf (MendsFiles files.old claims.now))) }
     ensures is_open { ForSome (F.told folder.new).files (IsOpen files.new) }
-    ensures clean { OnOk result (ForSome (F.told folder.old).files (λ from. (entry : Image) → IsNextRebuilt entry claims.now from → HasMendedFiles from → HasOnlyKeptFiles from → Stays (F.told folder.old) (F.told folder.new))) }
+    ensures clean { OnOk result (WhereRebuilt F.told folder.old folder.new claims.now (λ entry. StaysWhereBoth HasMendedFiles HasOnlyKeptFiles)) }
     ensures damaged { IfDamaged result (IsShortReadOf (F.told folder.new) (all_files files.new)) }
     ensures untold { IfDamaged result (λ _. (F.told folder.old).files ≡ None) }
     ensures writes { MayWrite F.told F.faults folder.old folder.new (IfDevice result) }
@@ -172,11 +170,11 @@ fn delete_others<F: Folder>(
     claims: &Claims,
 ) -> Result<(), Failed>
     requires is_open { ForSome (F.told folder.old).files (IsOpen files.now) }
-    ensures mended { OnOk result (ForSome (F.told folder.old).files (λ from. (entry : Image) → IsNextRebuilt entry claims.now from → ForSome (F.told folder.new).files (AreOthersDeleted entry from))) }
-    ensures stops { ForSome (F.told folder.old).files (λ from. (entry : Image) → IsNextRebuilt entry claims.now from → RepairBreaksOff (F.told folder.old) (F.told folder.new) (IsMidRepair entry)) }
-    ensures steps { OnOk result (ForSome (F.told folder.old).files (λ from. AppliesOf (DeletesOthers files.now claims.now) from (F.told folder.old) (F.told folder.new))) }
+    ensures mended { OnOk result (WhereRebuilt F.told folder.old folder.new claims.now (λ entry. Leaves (AreOthersDeleted entry))) }
+    ensures stops { WhereRebuilt F.told folder.old folder.new claims.now (λ entry from. StopsWith IsMidRepair entry) }
+    ensures steps { OnOk result (OnImage F.told folder.old folder.new (AppliesOf (DeletesOthers files.now claims.now))) }
     ensures is_open { ForSome (F.told folder.new).files (IsOpen files.now) }
-    ensures clean { OnOk result (ForSome (F.told folder.old).files (λ from. (entry : Image) → IsNextRebuilt entry claims.now from → HasOnlyKeptFiles from → Stays (F.told folder.old) (F.told folder.new))) }
+    ensures clean { OnOk result (WhereRebuilt F.told folder.old folder.new claims.now (λ entry. StaysWhere HasOnlyKeptFiles)) }
     ensures writes { MayWrite F.told F.faults folder.old folder.new (OnErr result) }
 {
     delete_unlinked(folder, files)?;
@@ -187,13 +185,13 @@ fn delete_others<F: Folder>(
 fn mend_links<F: Folder>(folder: &mut F, files: &BlockFiles, scan: &Scan) -> Result<(), Fault>
     requires stand { StandAmong files.now scan.now }
     requires is_open { ForSome (F.told folder.old).files (IsOpen files.now) }
-    ensures mended { OnOk result (ForSome (F.told folder.old).files (λ from. IsRepairable scan.now from → ForSome (F.told folder.new).files (AreLinksMended scan.now from))) }
-    ensures stops { ForSome (F.told folder.old).files (λ from. IsRepairable scan.now from → RepairBreaksOff (F.told folder.old) (F.told folder.new) (IsMidRepair from)) }
-    ensures steps { OnOk result (ForSome (F.told folder.old).files (λ from. IsRepairable scan.now from → AppliesOf MendsLinks from (F.told folder.old) (F.told folder.new))) }
+    ensures mended { OnOk result (Where F.told folder.old folder.new (IsRepairable scan.now) (Leaves (AreLinksMended scan.now))) }
+    ensures stops { Where F.told folder.old folder.new (IsRepairable scan.now) (StopsWith IsMidRepair) }
+    ensures steps { OnOk result (Where F.told folder.old folder.new (IsRepairable scan.now) (AppliesOf MendsLinks)) }
     ensures is_open { ForSome (F.told folder.new).files (IsOpen files.now) }
-    ensures clean { OnOk result (ForSome (F.told folder.old).files (λ from. IsRepairable scan.now from → HasMendedLinks from → Stays (F.told folder.old) (F.told folder.new))) }
+    ensures clean { OnOk result (Where F.told folder.old folder.new (IsRepairable scan.now) (StaysWhere HasMendedLinks)) }
     ensures damaged { IfDamaged result (IsLinksRepairDamage files.now (F.told folder.new)) }
-    ensures untold { ForSome (F.told folder.old).files (IsRepairable scan.now) → IfDamaged result (λ _. (F.told folder.old).files ≡ None) }
+    ensures untold { NoDamageWhere result (F.told folder.old) (IsRepairable scan.now) }
     ensures writes { MayWrite F.told F.faults folder.old folder.new (IfDevice result) }
 {
     mend_list(folder, files, scan.walked_nodes(), scan.kept_nodes())?;
@@ -204,13 +202,13 @@ fn mend_links<F: Folder>(folder: &mut F, files: &BlockFiles, scan: &Scan) -> Res
 fn mend_buckets<F: Folder>(folder: &mut F, files: &BlockFiles, scan: &Scan) -> Result<(), Fault>
     requires stand { ChainsStandIf files.now scan.now.chains }
     requires is_open { ForSome (F.told folder.old).files (IsOpen files.now) }
-    ensures mended { OnOk result (ForSome (F.told folder.old).files (λ from. AreBucketsScanned scan.now.chains from → ForSome (F.told folder.new).files (AreChainsMended from))) }
-    ensures stops { ForSome (F.told folder.old).files (λ from. AreBucketsScanned scan.now.chains from → RepairBreaksOff (F.told folder.old) (F.told folder.new) (HoldsTheSame from)) }
-    ensures steps { OnOk result (ForSome (F.told folder.old).files (λ from. AreBucketsScanned scan.now.chains from → Applies (F.told folder.old) (F.told folder.new) (chain_repair_steps from))) }
+    ensures mended { OnOk result (Where F.told folder.old folder.new (AreBucketsScanned scan.now.chains) (Leaves AreChainsMended)) }
+    ensures stops { Where F.told folder.old folder.new (AreBucketsScanned scan.now.chains) (StopsWith HoldsTheSame) }
+    ensures steps { OnOk result (Where F.told folder.old folder.new (AreBucketsScanned scan.now.chains) (DoesAll chain_repair_steps)) }
     ensures is_open { ForSome (F.told folder.new).files (IsOpen files.now) }
-    ensures clean { OnOk result (ForSome (F.told folder.old).files (λ from. AreBucketsScanned scan.now.chains from → HasMendedLinks from → Stays (F.told folder.old) (F.told folder.new))) }
+    ensures clean { OnOk result (Where F.told folder.old folder.new (AreBucketsScanned scan.now.chains) (StaysWhere HasMendedLinks)) }
     ensures damaged { IfDamaged result (IsChainsRepairDamage files.now (F.told folder.new)) }
-    ensures untold { ForSome (F.told folder.old).files (AreBucketsScanned scan.now.chains) → IfDamaged result (λ _. (F.told folder.old).files ≡ None) }
+    ensures untold { NoDamageWhere result (F.told folder.old) (AreBucketsScanned scan.now.chains) }
     ensures writes { MayWrite F.told F.faults folder.old folder.new (IfDevice result) }
 {
     match scan.chains() {
@@ -234,14 +232,14 @@ fn mend_rest<F: Folder>(
 ) -> Result<(), Fault>
     requires stand { All (CanBeSealed files.now) scan.now.bare.items }
     requires is_open { ForSome (F.told folder.old).files (IsOpen files.now) }
-    ensures mended { OnOk result (ForSome (F.told folder.old).files (λ from. (entry : Image) → IsNextFinished scan.now entry from → ForSome (F.told folder.new).files (IsRepairedFor this_id entry))) }
-    ensures stops { ForSome (F.told folder.old).files (λ from. (entry : Image) → IsNextFinished scan.now entry from → EndsOrBreaksOff (F.told folder.old) (F.told folder.new) (IsMidRepair entry) (IsRepairedFor this_id entry)) }
-    ensures last { OnOk result (ForSome (F.told folder.old).files (λ from. (entry : Image) → IsNextFinished scan.now entry from → EndsWithCrashWord (F.told folder.old) (F.told folder.new) (IsMidRepair entry) (IsRepairedFor this_id entry))) }
-    ensures steps { OnOk result (ForSome (F.told folder.old).files (λ from. (entry : Image) → IsNextFinished scan.now entry from → AppliesOf (MendsRest scan.now entry this_id) from (F.told folder.old) (F.told folder.new))) }
+    ensures mended { OnOk result (ForEntry F.told folder.old folder.new (IsNextFinished scan.now) (λ entry from. Leaves (IsRepairedFor this_id) entry)) }
+    ensures stops { ForEntry F.told folder.old folder.new (IsNextFinished scan.now) (λ entry from. EndsOrStopsRepair this_id entry) }
+    ensures last { OnOk result (ForEntry F.told folder.old folder.new (IsNextFinished scan.now) (λ entry from. EndsRepair this_id entry)) }
+    ensures steps { OnOk result (ForEntry F.told folder.old folder.new (IsNextFinished scan.now) (λ entry. AppliesOf (MendsRest scan.now entry this_id))) }
     ensures is_open { ForSome (F.told folder.new).files (IsOpen files.now) }
-    ensures clean { OnOk result (ForSome (F.told folder.old).files (λ from. (entry : Image) → IsNextFinished scan.now entry from → NeedsOnlyWords scan.now from → Applies (F.told folder.old) (F.told folder.new) (counting_steps entry this_id from))) }
+    ensures clean { OnOk result (ForEntry F.told folder.old folder.new (IsNextFinished scan.now) (SetsOnlyWords scan.now this_id)) }
     ensures damaged { IfDamaged result (IsRestRepairDamage files.now (F.told folder.new)) }
-    ensures untold { ForSome (F.told folder.old).files (λ from. (entry : Image) × IsNextFinished scan.now entry from) → IfDamaged result (λ _. (F.told folder.old).files ≡ None) }
+    ensures untold { NoDamageWhere result (F.told folder.old) (λ from. (entry : Image) × IsNextFinished scan.now entry from) }
     ensures writes { MayWrite F.told F.faults folder.old folder.new (IfDevice result) }
 {
     seal_records(folder, files, scan.bare())?;

@@ -1,8 +1,7 @@
 // All buckets get exactly the chains of their kept records.
-ghost use Rattle.std.specs.Prelude.{◌≡◌, ◌<◌, None, IfOk, OnOk, All, true, false, length};
+ghost use Rattle.std.specs.Prelude.{◌≡◌, ◌<◌, IfOk, OnOk, All, true, false, length};
 ghost use Rattle.std.specs.Option.{ForSome};
-ghost use Rattle.spec_image.specs.Image.{Image};
-ghost use Rattle.spec_image.specs.Told.{Applies, AppliesPrefix, Passes, MayWrite, ReadsOnly};
+ghost use Rattle.spec_image.specs.Told.{MayWrite, ReadsOnly};
 ghost use Rattle.spec_format.specs.Headers.{HasWholeIndex, table_length};
 ghost use Rattle.blk_io.specs.Faults.{IfDamaged, IfDevice};
 ghost use Rattle.blk_disk.specs.Open.{IsOpen};
@@ -12,8 +11,9 @@ ghost use Rattle.law_recovery.specs.ListRepair.{HoldsTheSame};
 ghost use Rattle.blk_index.specs.Table.{buckets_of_piece};
 ghost use Rattle.blk_audit.specs.BucketEnds.{AreEnds, records_of as records_among};
 ghost use Rattle.blk_audit.specs.Faults.{IsTableDamage};
-ghost use Rattle.blk_repair.specs.Chains.{AreChainsScanned, AreBucketWords, IsNextBucket, KeepsOtherBuckets};
+ghost use Rattle.blk_repair.specs.Chains.{AreChainsScanned, KeepsOtherBuckets, ReadsOnWords};
 ghost use Rattle.blk_repair.specs.Damages.{AllCheck, IsChainsRepairDamage, IsFailedLink};
+ghost use Rattle.blk_repair.specs.RepairClauses.{DoesAll, DoesPrefix, HoldsAlong, Leaves, NoDamageWhere, Where, WhereNextBucket};
 
 use crate::chains::mend_chain;
 use blk_addr::Addr;
@@ -41,17 +41,17 @@ pub fn mend_chains<F: Folder>(
 
     // With the kept records of the folder the steps are those of the repair of the chains, from the first on: all are
     // repaired in the end, and the same is kept and found at each word.
-    ensures steps { OnOk result (ForSome (F.told folder.old).files (λ from. AreChainsScanned records.now ends.now whole.now from → Applies (F.told folder.old) (F.told folder.new) (chain_repair_steps from))) }
-    ensures prefix { ForSome (F.told folder.old).files (λ from. AreChainsScanned records.now ends.now whole.now from → AppliesPrefix (F.told folder.old) (F.told folder.new) (chain_repair_steps from)) }
-    ensures mended { OnOk result (ForSome (F.told folder.old).files (λ from. AreChainsScanned records.now ends.now whole.now from → ForSome (F.told folder.new).files (AreChainsMended from))) }
-    ensures stops { ForSome (F.told folder.old).files (λ from. AreChainsScanned records.now ends.now whole.now from → Passes (F.told folder.old) (F.told folder.new) (HoldsTheSame from)) }
+    ensures steps { OnOk result (Where F.told folder.old folder.new (AreChainsScanned records.now ends.now whole.now) (DoesAll chain_repair_steps)) }
+    ensures prefix { Where F.told folder.old folder.new (AreChainsScanned records.now ends.now whole.now) (DoesPrefix chain_repair_steps) }
+    ensures mended { OnOk result (Where F.told folder.old folder.new (AreChainsScanned records.now ends.now whole.now) (Leaves AreChainsMended)) }
+    ensures stops { Where F.told folder.old folder.new (AreChainsScanned records.now ends.now whole.now) (HoldsAlong HoldsTheSame) }
 
     ensures is_open { ForSome (F.told folder.new).files (IsOpen files.now) }
     ensures writes { MayWrite F.told F.faults folder.old folder.new (IfDevice result) }
 
     // An observable folder reports corruption only where these aren't its kept records.
     ensures damaged { IfDamaged result (IsChainsRepairDamage files.now (F.told folder.new)) }
-    ensures untold { ForSome (F.told folder.old).files (AreChainsScanned records.now ends.now whole.now) → IfDamaged result (λ _. (F.told folder.old).files ≡ None) }
+    ensures untold { NoDamageWhere result (F.told folder.old) (AreChainsScanned records.now ends.now whole.now) }
 {
     let mut table = [0u32; BUCKETS_OF_PIECE];
     let mut read = 0;
@@ -81,11 +81,11 @@ fn read_piece<F: Folder>(
 ) -> Result<u32, Fault>
     requires size { length table.old ≡ buckets_of_piece }
     ensures size { length table.new ≡ buckets_of_piece }
-    ensures fronts { IfOk result (λ now. ForSome (F.told folder.old).files (λ from. AreBucketWords table.old bucket read from → AreBucketWords table.new bucket now from)) }
+    ensures fronts { IfOk result (λ now. ForSome (F.told folder.old).files (ReadsOnWords table.old table.new bucket read now)) }
     ensures reached { IfOk result (λ now. whole ≡ false → bucket < now) }
     ensures reads { ReadsOnly F.told F.faults folder.old folder.new (IfDevice result) }
     ensures damaged { IfDamaged result (IsTableDamage (F.told folder.new)) }
-    ensures untold { ForSome (F.told folder.old).files HasWholeIndex → IfDamaged result (λ _. (F.told folder.old).files ≡ None) }
+    ensures untold { NoDamageWhere result (F.told folder.old) HasWholeIndex }
 {
     if whole || u32::from(bucket) < read {
         return Ok(read);
@@ -106,13 +106,13 @@ fn mend_bucket<F: Folder>(
 ) -> Result<(), Fault>
     requires stand { All (λ w. is_record_among files.now w ≡ true) records.now }
     requires is_open { ForSome (F.told folder.old).files (IsOpen files.now) }
-    ensures steps { OnOk result (ForSome (F.told folder.old).files (λ from. (entry : Image) → IsNextBucket entry bucket front records.now whole from → Applies (F.told folder.old) (F.told folder.new) (chain_steps bucket records.now from))) }
-    ensures prefix { ForSome (F.told folder.old).files (λ from. (entry : Image) → IsNextBucket entry bucket front records.now whole from → AppliesPrefix (F.told folder.old) (F.told folder.new) (chain_steps bucket records.now from)) }
+    ensures steps { OnOk result (WhereNextBucket F.told folder.old folder.new bucket front records.now whole (DoesAll (chain_steps bucket records.now))) }
+    ensures prefix { WhereNextBucket F.told folder.old folder.new bucket front records.now whole (DoesPrefix (chain_steps bucket records.now)) }
     ensures others { OnOk result (ForSome (F.told folder.old).files (λ from. ForSome (F.told folder.new).files (KeepsOtherBuckets bucket from))) }
     ensures is_open { ForSome (F.told folder.new).files (IsOpen files.now) }
     ensures writes { MayWrite F.told F.faults folder.old folder.new (IfDevice result) }
     ensures damaged { IfDamaged result (IsFailedLink files.now (F.told folder.new)) }
-    ensures untold { ForSome (F.told folder.old).files (AllCheck records.now) → IfDamaged result (λ _. (F.told folder.old).files ≡ None) }
+    ensures untold { NoDamageWhere result (F.told folder.old) (AllCheck records.now) }
 {
     if whole {
         return Ok(());

@@ -11,3 +11,4 @@ pub mod SparseWrites
 pub mod NewParts
 pub mod Writing
 pub mod Finding
+pub mod Clauses

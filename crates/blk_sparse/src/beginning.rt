@@ -1,9 +1,8 @@
 // A plain object becomes sparse.
-ghost use Rattle.std.specs.Prelude.{◌≡◌, ◌≤◌, ◌<◌, IfOk, IsTrue, None, OnOk, length};
+ghost use Rattle.std.specs.Prelude.{◌≡◌, ◌≤◌, ◌<◌, IfOk, IsTrue, OnOk, length};
 ghost use Rattle.std.specs.Int.{cast_unsigned, w64};
 ghost use Rattle.std.specs.Option.{ForSome};
-ghost use Rattle.spec_image.specs.Told.{Passes, MayWrite, ReadsOnly};
-ghost use Rattle.blk_model.specs.Holding.{rest};
+ghost use Rattle.spec_image.specs.Told.{MayWrite, ReadsOnly};
 ghost use Rattle.blk_model.specs.Sizes.{longest_key, signatures};
 ghost use Rattle.spec_format.specs.Address.{blocks_256, kind_of};
 ghost use Rattle.spec_format.specs.SparseIndex.{parent_index_length};
@@ -12,11 +11,10 @@ ghost use Rattle.blk_io.specs.Faults.{IfDamaged, IfDevice};
 ghost use Rattle.blk_disk.specs.Open.{IsOpen};
 ghost use Rattle.blk_disk.specs.Tables.{Agrees, stands_among};
 ghost use Rattle.blk_alloc.specs.Extending.{KeepsStanding};
-ghost use Rattle.law_state.specs.Changes.{Finds};
-ghost use Rattle.law_state.specs.PartStates.{with_object};
 ghost use Rattle.blk_object.specs.FailedChecks.{IsFailedCheck};
-ghost use Rattle.blk_sparse.specs.Beginning.{ForEachPlainWith, ForEachWithIndex, HasIndex, HasParentLength, IsParentMarked};
-ghost use Rattle.blk_sparse.specs.SparseObjects.{ForEachPlain, KeepsParentThen, with_signature};
+ghost use Rattle.blk_sparse.specs.Clauses.{BecomesParent, BecomesParentOf, DurableAtNode, DurableOf, ForTold, MarksParent, OpaqueIfDamaged, Recovers, UndamagedAtNode, UndamagedWhere};
+ghost use Rattle.blk_sparse.specs.Beginning.{ForEachPlainWith, ForEachWithIndex, HasIndex, HasParentLength};
+ghost use Rattle.blk_sparse.specs.SparseObjects.{ForEachPlain};
 
 use blk_addr::Addr;
 use blk_disk::BlockFiles;
@@ -46,10 +44,10 @@ pub fn begin<F: Folder>(
     requires is_open { ForSome (F.told f.old).files (IsOpen files.old) }
 
     // Each state that was kept, with such an object, is kept with it sparse in the end, but for the counters.
-    ensures begun { OnOk result (ForSome (F.told f.old).files (λ from. ForEachPlain entry from (λ state layout unlinked number object node. ForSome (F.told f.new).files (KeepsParentThen (with_object state number (with_signature object (cast_unsigned w64 signature))) layout unlinked number (with_signature object (cast_unsigned w64 signature)) node entry (cast_unsigned w64 signature) from)))) }
+    ensures begun { OnOk result (ForTold (F.told f.old) (ForEachPlain entry) (BecomesParent (F.told f.new) entry (cast_unsigned w64 signature))) }
 
     // At each word the old durable contents are recovered: a dirty object isn't durable.
-    ensures stops { ForSome (F.told f.old).files (λ from. ForEachPlain entry from (λ state layout unlinked number object node. Passes (F.told f.old) (F.told f.new) (Finds (rest state)))) }
+    ensures stops { ForTold (F.told f.old) (ForEachPlain entry) (DurableAtNode (F.told f.old) (F.told f.new)) }
 
     // What was valid still is.
     ensures keeps { KeepsStanding files.old files.new }
@@ -59,7 +57,7 @@ pub fn begin<F: Folder>(
     ensures damaged { IfDamaged result (IsFailedCheck files.new (F.told f.new)) }
 
     // An observable folder, with such an object, reports no corruption.
-    ensures untold { ForSome (F.told f.old).files (λ from. ForEachPlain entry from (λ state layout unlinked number object node. IfDamaged result (λ _. (F.told f.old).files ≡ None))) }
+    ensures untold { ForTold (F.told f.old) (ForEachPlain entry) (UndamagedAtNode result (F.told f.old)) }
 
     ensures writes { MayWrite F.told F.faults f.old f.new (IfDevice result) }
 {
@@ -78,7 +76,7 @@ fn parent_length<F: Folder>(folder: &mut F, files: &BlockFiles, entry: Addr) -> 
     ensures length { IfOk result (λ len. ForSome (F.told folder.old).files (λ image. len ≡ (entry_at image entry).key_len)) }
     ensures reads { ReadsOnly F.told F.faults folder.old folder.new (IfDevice result) }
     ensures damaged { IfDamaged result (IsFailedCheck files.now (F.told folder.new)) }
-    ensures untold { ForSome (F.told folder.old).files (Agrees files.now) → ForSome (F.told folder.old).files (HasParentLength entry) → IfDamaged result (λ _. (F.told folder.old).files ≡ None) }
+    ensures untold { ForSome (F.told folder.old).files (Agrees files.now) → UndamagedWhere result (F.told folder.old) (HasParentLength entry) }
 {
     let head = read_head(folder, files, entry)?;
     if head.key_len == 0 || head.key_len > LONGEST_KEY {
@@ -113,12 +111,12 @@ fn give_index<F: Folder>(
     requires stands { IsTrue (stands_among files.old entry) }
     requires long { length bytes.now ≡ parent_index_length }
     requires is_open { ForSome (F.told folder.old).files (IsOpen files.old) }
-    ensures begun { OnOk result (ForSome (F.told folder.old).files (λ from. ForEachPlainWith bytes.now entry from (λ state layout unlinked number object node signature. ForSome (F.told folder.new).files (KeepsParentThen (with_object state number (with_signature object signature)) layout unlinked number (with_signature object signature) node entry signature from)))) }
-    ensures stops { ForSome (F.told folder.old).files (λ from. ForEachPlainWith bytes.now entry from (λ state layout unlinked number object node signature. Passes (F.told folder.old) (F.told folder.new) (Finds (rest state)))) }
+    ensures begun { OnOk result (ForTold (F.told folder.old) (ForEachPlainWith bytes.now entry) (BecomesParentOf (F.told folder.new) entry)) }
+    ensures stops { ForTold (F.told folder.old) (ForEachPlainWith bytes.now entry) (DurableOf (F.told folder.old) (F.told folder.new)) }
     ensures keeps { KeepsStanding files.old files.new }
     ensures is_open { OnOk result (ForSome (F.told folder.new).files (IsOpen files.new)) }
     ensures damaged { IfDamaged result (IsFailedCheck files.new (F.told folder.new)) }
-    ensures untold { ForSome (F.told folder.old).files (λ from. ForEachPlainWith bytes.now entry from (λ state layout unlinked number object node signature. IfDamaged result (λ _. (F.told folder.old).files ≡ None))) }
+    ensures untold { ForTold (F.told folder.old) (ForEachPlainWith bytes.now entry) (λ _ _ _ _ _ _ _ _. OpaqueIfDamaged result (F.told folder.old)) }
     ensures writes { MayWrite F.told F.faults folder.old folder.new (IfDevice result) }
 {
     write_object(folder, files, entry, INDEX, 0, true, bytes)?;
@@ -130,11 +128,11 @@ fn set_parent<F: Folder>(folder: &mut F, files: &BlockFiles, entry: Addr) -> Res
     requires kind { kind_of entry ≡ blocks_256 }
     requires stands { IsTrue (stands_among files.now entry) }
     requires is_open { ForSome (F.told folder.old).files (IsOpen files.now) }
-    ensures marked { OnOk result (ForSome (F.told folder.old).files (λ from. ForEachWithIndex entry from (λ state layout unlinked number object was index. ForSome (F.told folder.new).files (IsParentMarked state layout unlinked number object was index from)))) }
-    ensures stops { ForSome (F.told folder.old).files (λ from. ForEachWithIndex entry from (λ state layout unlinked number object was index. Passes (F.told folder.old) (F.told folder.new) (Finds (rest state)))) }
+    ensures marked { OnOk result (ForTold (F.told folder.old) (ForEachWithIndex entry) (MarksParent (F.told folder.new))) }
+    ensures stops { ForTold (F.told folder.old) (ForEachWithIndex entry) (λ _ state _ _ _ _ _ _. Recovers (F.told folder.old) (F.told folder.new) state) }
     ensures is_open { ForSome (F.told folder.new).files (IsOpen files.now) }
     ensures damaged { IfDamaged result (IsFailedCheck files.now (F.told folder.new)) }
-    ensures untold { ForSome (F.told folder.old).files (λ from. ForEachWithIndex entry from (λ state layout unlinked number object was index. IfDamaged result (λ _. (F.told folder.old).files ≡ None))) }
+    ensures untold { ForTold (F.told folder.old) (ForEachWithIndex entry) (λ _ _ _ _ _ _ _ _. OpaqueIfDamaged result (F.told folder.old)) }
     ensures writes { MayWrite F.told F.faults folder.old folder.new (IfDevice result) }
 {
     files.update_sealed(folder, entry, &[(EntryView::FLAGS, PARENT)])

@@ -1,24 +1,18 @@
 // A part that exists gets a piece.
 ghost use Rattle.std.specs.Prelude.{◌≡◌, ◌≤◌, ◌<◌, ◌+◌, IfOk, IsTrue, None, OnOk, length};
 ghost use Rattle.std.specs.Option.{ForSome};
-ghost use Rattle.spec_image.specs.Told.{Passes, MayWrite, ReadsOnly};
-ghost use Rattle.blk_model.specs.Holding.{rest};
+ghost use Rattle.spec_image.specs.Told.{MayWrite, ReadsOnly};
 ghost use Rattle.blk_model.specs.Sizes.{part_size};
 ghost use Rattle.spec_format.specs.Address.{blocks_256, kind_of};
-ghost use Rattle.spec_format.specs.Names.{Name};
-ghost use Rattle.spec_format.specs.SparseIndex.{PartIndex};
-ghost use Rattle.spec_folder.specs.Entries.{IsPart};
-ghost use Rattle.spec_folder.specs.Loads.{Loaded};
 ghost use Rattle.blk_io.specs.Faults.{IfDamaged, IfDevice};
 ghost use Rattle.blk_disk.specs.Open.{IsOpen};
 ghost use Rattle.blk_disk.specs.Tables.{Agrees, stands_among};
 ghost use Rattle.blk_alloc.specs.Extending.{KeepsStanding};
-ghost use Rattle.law_state.specs.Changes.{Finds};
 ghost use Rattle.blk_object.specs.FailedChecks.{IsFailedCheck};
-ghost use Rattle.blk_object.specs.Owning.{LoadsWith};
 ghost use Rattle.blk_ranges.specs.PartMaps.{IsPartMap, index_of};
-ghost use Rattle.blk_sparse.specs.Changing.{ForEachToBeChanged, IsChangedUnused, IsDataBeforeMap, NotesWrite, LoadsAsPart};
-ghost use Rattle.blk_sparse.specs.SparseObjects.{ForEachPartThere, KeepsParentThen, with_piece, with_piece_written};
+ghost use Rattle.blk_sparse.specs.Clauses.{ChangesPart, DurableAtPart, ForChange, ForPartIndex, ForTold, OrdersInPart, UndamagedAtPart, UndamagedWhere, WritesInPart};
+ghost use Rattle.blk_sparse.specs.Changing.{ForEachToBeChanged, NotesWrite, LoadsAsPart};
+ghost use Rattle.blk_sparse.specs.SparseObjects.{ForEachPartThere};
 
 use crate::parts::use_entry;
 use blk_addr::Addr;
@@ -46,13 +40,13 @@ pub(crate) fn change_part<F: Folder>(
     requires is_open { ForSome (F.told folder.old).files (IsOpen files.old) }
 
     // Each state that was kept, with such a part of a dirty object, is kept with the piece written and the part in front, but for the counters.
-    ensures written { OnOk result (ForSome (F.told folder.old).files (λ from. ForEachPartThere part from (λ state layout unlinked number object node entry signature n. ForSome (F.told folder.new).files (KeepsParentThen (with_piece_written state number object n place piece.now) layout unlinked number (with_piece object n place piece.now) node entry signature from)))) }
+    ensures written { OnOk result (ForTold (F.told folder.old) (ForEachPartThere part) (WritesInPart (F.told folder.new) place piece.now)) }
 
     // At each word the old durable contents are recovered: a dirty object isn't durable, nor are its parts.
-    ensures stops { ForSome (F.told folder.old).files (λ from. ForEachPartThere part from (λ state layout unlinked number object node entry signature n. Passes (F.told folder.old) (F.told folder.new) (Finds (rest state)))) }
+    ensures stops { ForTold (F.told folder.old) (ForEachPartThere part) (DurableAtPart (F.told folder.old) (F.told folder.new)) }
 
     // The part has the bytes before its map changes.
-    ensures ordered { OnOk result (ForSome (F.told folder.old).files (λ from. ForEachPartThere part from (λ state layout unlinked number object node entry signature n. IsDataBeforeMap state unlinked number object n place piece.now (F.told folder.old) (F.told folder.new)))) }
+    ensures ordered { OnOk result (ForTold (F.told folder.old) (ForEachPartThere part) (OrdersInPart (F.told folder.new) (F.told folder.old) place piece.now)) }
 
     // What was valid still is.
     ensures keeps { KeepsStanding files.old files.new }
@@ -62,7 +56,7 @@ pub(crate) fn change_part<F: Folder>(
     ensures damaged { IfDamaged result (IsFailedCheck files.new (F.told folder.new)) }
 
     // An observable folder, with such a part, reports no corruption.
-    ensures untold { ForSome (F.told folder.old).files (λ from. ForEachPartThere part from (λ state layout unlinked number object node entry signature n. IfDamaged result (λ _. (F.told folder.old).files ≡ None))) }
+    ensures untold { ForTold (F.told folder.old) (ForEachPartThere part) (UndamagedAtPart result (F.told folder.old)) }
 
     ensures writes { MayWrite F.told F.faults folder.old folder.new (IfDevice result) }
 {
@@ -81,11 +75,11 @@ pub(crate) fn read_map<F: Folder>(
 ) -> Result<PartMap, Fault>
     requires kind { kind_of part ≡ blocks_256 }
     requires stands { IsTrue (stands_among files.now part) }
-    ensures map { IfOk result (λ map. ForSome (F.told folder.old).files (λ image. (loaded : Loaded) (name : Name) (index : PartIndex) → LoadsWith part loaded image → loaded.role ≡ IsPart name index → index_of map ≡ index)) }
+    ensures map { IfOk result (λ map. ForSome (F.told folder.old).files (ForPartIndex part (λ index. index_of map ≡ index))) }
     ensures valid { IfOk result IsPartMap }
     ensures reads { ReadsOnly F.told F.faults folder.old folder.new (IfDevice result) }
     ensures damaged { IfDamaged result (IsFailedCheck files.now (F.told folder.new)) }
-    ensures untold { ForSome (F.told folder.old).files (Agrees files.now) → ForSome (F.told folder.old).files (LoadsAsPart part) → IfDamaged result (λ _. (F.told folder.old).files ≡ None) }
+    ensures untold { ForSome (F.told folder.old).files (Agrees files.now) → UndamagedWhere result (F.told folder.old) (LoadsAsPart part) }
 {
     let mut bytes = [0u8; PartMap::LEN];
     let len = read(folder, files, part, INDEX, 0, &mut bytes)?;
@@ -122,13 +116,13 @@ fn write_noted<F: Folder>(
     requires inside { place + length piece.now ≤ part_size }
     requires map { length map.now ≡ 192 }
     requires is_open { ForSome (F.told folder.old).files (IsOpen files.old) }
-    ensures written { OnOk result (ForSome (F.told folder.old).files (λ from. ForEachToBeChanged part place piece.now map.now from (λ state layout unlinked number object node entry signature n. ForSome (F.told folder.new).files (IsChangedUnused state layout unlinked number object node entry signature n part place piece.now from)))) }
-    ensures stops { ForSome (F.told folder.old).files (λ from. ForEachToBeChanged part place piece.now map.now from (λ state layout unlinked number object node entry signature n. Passes (F.told folder.old) (F.told folder.new) (Finds (rest state)))) }
-    ensures ordered { OnOk result (ForSome (F.told folder.old).files (λ from. ForEachToBeChanged part place piece.now map.now from (λ state layout unlinked number object node entry signature n. IsDataBeforeMap state unlinked number object n place piece.now (F.told folder.old) (F.told folder.new)))) }
+    ensures written { OnOk result (ForChange (F.told folder.old) part place piece.now map.now (ChangesPart part (F.told folder.new))) }
+    ensures stops { ForTold (F.told folder.old) (ForEachToBeChanged part place piece.now map.now) (DurableAtPart (F.told folder.old) (F.told folder.new)) }
+    ensures ordered { OnOk result (ForChange (F.told folder.old) part place piece.now map.now (OrdersInPart (F.told folder.new))) }
     ensures keeps { KeepsStanding files.old files.new }
     ensures is_open { OnOk result (ForSome (F.told folder.new).files (IsOpen files.new)) }
     ensures damaged { IfDamaged result (IsFailedCheck files.new (F.told folder.new)) }
-    ensures untold { ForSome (F.told folder.old).files (λ from. ForEachToBeChanged part place piece.now map.now from (λ state layout unlinked number object node entry signature n. IfDamaged result (λ _. (F.told folder.old).files ≡ None))) }
+    ensures untold { ForTold (F.told folder.old) (ForEachToBeChanged part place piece.now map.now) (UndamagedAtPart result (F.told folder.old)) }
     ensures writes { MayWrite F.told F.faults folder.old folder.new (IfDevice result) }
 {
     let offset = u64::from(place);

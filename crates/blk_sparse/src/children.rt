@@ -1,27 +1,19 @@
 // The parts of a parent are removed, by the key in its record.
-ghost use Rattle.std.specs.Prelude.{◌≡◌, ◌+◌, ◌≤◌, ◌<◌, ℕ, IfOk, IsTrue, List, None, OnOk, Some, false, filter, length, take};
+ghost use Rattle.std.specs.Prelude.{◌≡◌, ◌+◌, ◌≤◌, ◌<◌, ℕ, IfOk, IsTrue, List, None, OnOk, false, length, take};
 ghost use Rattle.std.specs.Int.{cast_unsigned, w64};
 ghost use Rattle.std.specs.List.{FoldsTo};
 ghost use Rattle.std.specs.Option.{ForSome};
-ghost use Rattle.spec_image.specs.Told.{Passes, MayWrite, ReadsOnly};
-ghost use Rattle.blk_model.specs.Effects.{doomed};
-ghost use Rattle.blk_model.specs.Holding.{rest};
-ghost use Rattle.blk_model.specs.Room.{parts_among};
+ghost use Rattle.spec_image.specs.Told.{MayWrite, ReadsOnly};
 ghost use Rattle.blk_model.specs.Sizes.{longest_key, signatures};
 ghost use Rattle.spec_format.specs.Address.{blocks_256, kind_of};
 ghost use Rattle.spec_format.specs.Names.{longest_name};
-ghost use Rattle.spec_format.specs.SparseIndex.{ParentIndex};
-ghost use Rattle.spec_folder.specs.Entries.{IsParent};
-ghost use Rattle.spec_folder.specs.Loads.{Loaded};
 ghost use Rattle.blk_io.specs.Faults.{IfDamaged, IfDevice};
 ghost use Rattle.blk_disk.specs.Open.{IsOpen};
 ghost use Rattle.blk_disk.specs.Tables.{Agrees, stands_among};
-ghost use Rattle.law_state.specs.Changes.{Finds, SameSession};
 ghost use Rattle.blk_object.specs.FailedChecks.{IsFailedCheck};
-ghost use Rattle.blk_object.specs.Owning.{LoadsWith};
-ghost use Rattle.blk_object.specs.UnlinkedLoads.{KeepsUnlinked};
-ghost use Rattle.blk_sparse.specs.Children.{ForEachParentOut, HasParentKey};
-ghost use Rattle.blk_sparse.specs.Dropping.{HasNoBit, IsCalledOverPrefix, IsWholeDropped};
+ghost use Rattle.blk_sparse.specs.Clauses.{AllOutOfIt, BeginsLeftOfIt, CallsLeftOfIt, CountsLeftOfIt, DoomedLeft, ForEachPartlyOut, ForParentIndex, ForTold, HasSomeKey, IsKeyAt, SessionStaysLeft, UndamagedLeft, UndamagedWhere, UnlinkedStay};
+ghost use Rattle.blk_sparse.specs.Children.{HasParentKey};
+ghost use Rattle.blk_sparse.specs.Dropping.{HasNoBit};
 ghost use Rattle.blk_sparse.specs.Parents.{LoadsAsParent};
 
 use crate::dropping::{IndexedParts, drop_indexed_with};
@@ -57,18 +49,18 @@ pub fn drop_children<F: Folder>(
 
     // Where the parent of an object is out, and perhaps parts of it, and what is left is counted, all its items are out in the end, in the same session. How
     // many parts went is the answer.
-    ensures out { OnOk result (ForSome (F.told f.old).files (λ from. ForEachParentOut parent.now.node parent.now.entry (cast_unsigned w64 parent.now.signature) from (λ state layout keep unlinked number object. ForSome (F.told f.new).files (IsWholeDropped state layout unlinked object.key)))) }
-    ensures count { IfOk result (λ count. ForSome (F.told f.old).files (λ from. ForEachParentOut parent.now.node parent.now.entry (cast_unsigned w64 parent.now.signature) from (λ state layout keep unlinked number object. count ≡ length (parts_among object.key (filter keep state.uses))))) }
-    ensures session { OnOk result (ForSome (F.told f.old).files (λ from. ForEachParentOut parent.now.node parent.now.entry (cast_unsigned w64 parent.now.signature) from (λ state layout keep unlinked number object. ForSome (F.told f.new).files (SameSession from)))) }
+    ensures out { OnOk result (ForTold (F.told f.old) (ForEachPartlyOut parent.now) (AllOutOfIt (F.told f.new))) }
+    ensures count { IfOk result (λ count. ForTold (F.told f.old) (ForEachPartlyOut parent.now) (CountsLeftOfIt count)) }
+    ensures session { OnOk result (ForTold (F.told f.old) (ForEachPartlyOut parent.now) (SessionStaysLeft (F.told f.new))) }
 
     // What lies in places that were unlinked at first, as those of the parent, lies there still.
-    ensures keeps { OnOk result (ForSome (F.told f.old).files (λ from. ForEachParentOut parent.now.node parent.now.entry (cast_unsigned w64 parent.now.signature) from (λ state layout keep unlinked number object. ForSome (F.told f.new).files (KeepsUnlinked unlinked from)))) }
+    ensures keeps { OnOk result (ForTold (F.told f.old) (ForEachPartlyOut parent.now) (UnlinkedStay (F.told f.new))) }
 
     // No more parts go than a list has nodes.
     ensures few { IfOk result (λ count. count ≤ 131072) }
 
     // At each word the durable contents with the object doomed are recovered.
-    ensures stops { ForSome (F.told f.old).files (λ from. ForEachParentOut parent.now.node parent.now.entry (cast_unsigned w64 parent.now.signature) from (λ state layout keep unlinked number object. Passes (F.told f.old) (F.told f.new) (Finds (rest (doomed number state (Some object)))))) }
+    ensures stops { ForTold (F.told f.old) (ForEachPartlyOut parent.now) (DoomedLeft (F.told f.old) (F.told f.new)) }
 
     ensures is_open { ForSome (F.told f.new).files (IsOpen files.now) }
 
@@ -76,7 +68,7 @@ pub fn drop_children<F: Folder>(
     ensures damaged { IfDamaged result (IsFailedCheck files.now (F.told f.new)) }
 
     // An observable folder, with such a parent, reports no corruption.
-    ensures untold { ForSome (F.told f.old).files (λ from. ForEachParentOut parent.now.node parent.now.entry (cast_unsigned w64 parent.now.signature) from (λ state layout keep unlinked number object. IfDamaged result (λ _. (F.told f.old).files ≡ None))) }
+    ensures untold { ForTold (F.told f.old) (ForEachPartlyOut parent.now) (UndamagedLeft result (F.told f.old)) }
 
     ensures writes { MayWrite F.told F.faults f.old f.new (IfDevice result) }
 {
@@ -107,26 +99,26 @@ pub fn drop_children_with<F: Folder, E: FnMut(u32)>(
 
     // Where the parent of an object is out, and perhaps parts of it, and what is left is counted, all its items are out in the end, in the same session. How
     // many parts went is the answer.
-    ensures out { OnOk result (ForSome (F.told folder.old).files (λ from. ForEachParentOut parent.now.node parent.now.entry (cast_unsigned w64 parent.now.signature) from (λ state layout keep unlinked number object. ForSome (F.told folder.new).files (IsWholeDropped state layout unlinked object.key)))) }
-    ensures count { IfOk result (λ count. ForSome (F.told folder.old).files (λ from. ForEachParentOut parent.now.node parent.now.entry (cast_unsigned w64 parent.now.signature) from (λ state layout keep unlinked number object. count ≡ length (parts_among object.key (filter keep state.uses))))) }
-    ensures session { OnOk result (ForSome (F.told folder.old).files (λ from. ForEachParentOut parent.now.node parent.now.entry (cast_unsigned w64 parent.now.signature) from (λ state layout keep unlinked number object. ForSome (F.told folder.new).files (SameSession from)))) }
+    ensures out { OnOk result (ForTold (F.told folder.old) (ForEachPartlyOut parent.now) (AllOutOfIt (F.told folder.new))) }
+    ensures count { IfOk result (λ count. ForTold (F.told folder.old) (ForEachPartlyOut parent.now) (CountsLeftOfIt count)) }
+    ensures session { OnOk result (ForTold (F.told folder.old) (ForEachPartlyOut parent.now) (SessionStaysLeft (F.told folder.new))) }
 
     // What lies in places that were unlinked at first, as those of the parent, lies there still.
-    ensures keeps { OnOk result (ForSome (F.told folder.old).files (λ from. ForEachParentOut parent.now.node parent.now.entry (cast_unsigned w64 parent.now.signature) from (λ state layout keep unlinked number object. ForSome (F.told folder.new).files (KeepsUnlinked unlinked from)))) }
+    ensures keeps { OnOk result (ForTold (F.told folder.old) (ForEachPartlyOut parent.now) (UnlinkedStay (F.told folder.new))) }
 
     // No more parts go than a list has nodes.
     ensures few { IfOk result (λ count. count ≤ 131072) }
 
     // `each` was called with the numbers of the parts that were left, in the order of the list, once each; or with a prefix of
     // them.
-    ensures each { OnOk result (ForSome (F.told folder.old).files (λ from. ForEachParentOut parent.now.node parent.now.entry (cast_unsigned w64 parent.now.signature) from (λ state layout keep unlinked number object. FoldsTo (λ p x q. E.step p x tt q) each.old (parts_among object.key (filter keep state.uses)) each.new))) }
-    ensures front { ForSome (F.told folder.old).files (λ from. ForEachParentOut parent.now.node parent.now.entry (cast_unsigned w64 parent.now.signature) from (λ state layout keep unlinked number object. IsCalledOverPrefix E (λ p x q. E.step p x tt q) (parts_among object.key (filter keep state.uses)) each.old each.new)) }
+    ensures each { OnOk result (ForTold (F.told folder.old) (ForEachPartlyOut parent.now) (CallsLeftOfIt (λ p x q. E.step p x tt q) each.old each.new)) }
+    ensures front { ForTold (F.told folder.old) (ForEachPartlyOut parent.now) (BeginsLeftOfIt E (λ p x q. E.step p x tt q) each.old each.new) }
 
     // On every folder it was called with some numbers.
     ensures calls { (numbers : List ℕ) × FoldsTo (λ p x q. E.step p x tt q) each.old numbers each.new }
 
     // At each word the durable contents with the object doomed are recovered.
-    ensures stops { ForSome (F.told folder.old).files (λ from. ForEachParentOut parent.now.node parent.now.entry (cast_unsigned w64 parent.now.signature) from (λ state layout keep unlinked number object. Passes (F.told folder.old) (F.told folder.new) (Finds (rest (doomed number state (Some object)))))) }
+    ensures stops { ForTold (F.told folder.old) (ForEachPartlyOut parent.now) (DoomedLeft (F.told folder.old) (F.told folder.new)) }
 
     ensures is_open { ForSome (F.told folder.new).files (IsOpen files.now) }
 
@@ -134,7 +126,7 @@ pub fn drop_children_with<F: Folder, E: FnMut(u32)>(
     ensures damaged { IfDamaged result (IsFailedCheck files.now (F.told folder.new)) }
 
     // An observable folder, with such a parent, reports no corruption.
-    ensures untold { ForSome (F.told folder.old).files (λ from. ForEachParentOut parent.now.node parent.now.entry (cast_unsigned w64 parent.now.signature) from (λ state layout keep unlinked number object. IfDamaged result (λ _. (F.told folder.old).files ≡ None))) }
+    ensures untold { ForTold (F.told folder.old) (ForEachPartlyOut parent.now) (UndamagedLeft result (F.told folder.old)) }
 
     ensures writes { MayWrite F.told F.faults folder.old folder.new (IfDevice result) }
 {
@@ -161,8 +153,8 @@ fn read_parent<F: Folder>(
     requires name { longest_name ≤ length name.old }
     ensures some { IfOk result (λ read. 1 ≤ read.0) }
     ensures short { IfOk result (λ read. read.0 ≤ longest_key) }
-    ensures key { IfOk result (λ read. ForSome (F.told folder.old).files (λ image. (key : List ℕ) → HasParentKey entry key image → take read.0 name.new ≡ key)) }
-    ensures none { IfOk result (λ read. ForSome (F.told folder.old).files (λ image. (loaded : Loaded) (index : ParentIndex) → LoadsWith entry loaded image → loaded.role ≡ IsParent index → read.1 ≡ false → HasNoBit index)) }
+    ensures key { IfOk result (λ read. ForSome (F.told folder.old).files (IsKeyAt entry (take read.0 name.new))) }
+    ensures none { IfOk result (λ read. ForSome (F.told folder.old).files (ForParentIndex entry (λ index. read.1 ≡ false → HasNoBit index))) }
     ensures reads { ReadsOnly F.told F.faults folder.old folder.new (IfDevice result) }
     ensures damaged { IfDamaged result (IsFailedCheck files.now (F.told folder.new)) }
     ensures untold { ForSome (F.told folder.old).files (Agrees files.now) → ForSome (F.told folder.old).files (λ image. (key : List ℕ) × HasParentKey entry key image) → ForSome (F.told folder.old).files (LoadsAsParent entry) → IfDamaged result (λ _. (F.told folder.old).files ≡ None) }
@@ -187,7 +179,7 @@ pub(crate) fn read_key<F: Folder>(
     ensures key { IfOk result (λ len. ForSome (F.told folder.old).files (λ image. (key : List ℕ) → HasParentKey entry key image → take len name.new ≡ key)) }
     ensures reads { ReadsOnly F.told F.faults folder.old folder.new (IfDevice result) }
     ensures damaged { IfDamaged result (IsFailedCheck files.now (F.told folder.new)) }
-    ensures untold { ForSome (F.told folder.old).files (Agrees files.now) → ForSome (F.told folder.old).files (λ image. (key : List ℕ) × HasParentKey entry key image) → IfDamaged result (λ _. (F.told folder.old).files ≡ None) }
+    ensures untold { ForSome (F.told folder.old).files (Agrees files.now) → UndamagedWhere result (F.told folder.old) (HasSomeKey entry) }
 {
     let len = key_piece(folder, files, entry, 0, name)?;
     if len == 0 || len > LONGEST_KEY as usize {

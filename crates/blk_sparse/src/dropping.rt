@@ -1,13 +1,10 @@
 // The parts of a key are removed.
-ghost use Rattle.std.specs.Prelude.{◌≡◌, ◌≤◌, ◌<◌, ◌^◌, ℕ, IfOk, IfSome, IsTrue, List, None, OnOk, Some, filter, length, map};
+ghost use Rattle.std.specs.Prelude.{◌≡◌, ◌≤◌, ◌<◌, ◌^◌, ℕ, IfOk, IfSome, IsTrue, List, None, OnOk, Some, length};
 ghost use Rattle.std.specs.Int.{cast_unsigned, w64};
 ghost use Rattle.std.specs.List.{FoldsTo};
 ghost use Rattle.std.specs.Option.{ForSome};
-ghost use Rattle.spec_image.specs.Told.{Passes, MayWrite};
-ghost use Rattle.blk_model.specs.Effects.{doomed};
-ghost use Rattle.blk_model.specs.Holding.{rest};
+ghost use Rattle.spec_image.specs.Told.{MayWrite};
 ghost use Rattle.blk_model.specs.Items.{part};
-ghost use Rattle.blk_model.specs.Room.{parts_among};
 ghost use Rattle.blk_model.specs.Sizes.{longest_key, part_count, signatures};
 ghost use Rattle.spec_format.specs.Address.{blocks_256, kind_of};
 ghost use Rattle.spec_format.specs.Names.{longest_name};
@@ -15,11 +12,10 @@ ghost use Rattle.spec_folder.specs.Found.{charge_of};
 ghost use Rattle.blk_io.specs.Faults.{IfDamaged, IfDevice};
 ghost use Rattle.blk_disk.specs.Open.{IsOpen};
 ghost use Rattle.blk_disk.specs.Tables.{is_node_among, stands_among};
-ghost use Rattle.law_state.specs.Changes.{Finds, SameSession};
 ghost use Rattle.blk_object.specs.FailedChecks.{IsFailedCheck};
 ghost use Rattle.blk_object.specs.ListedParts.{SaysPart};
-ghost use Rattle.blk_object.specs.UnlinkedLoads.{KeepsUnlinked};
-ghost use Rattle.blk_sparse.specs.Dropping.{AreGone, ForEachBehind, ForEachIndexed, ForEachLeft, ForEachPartLeft, IsCalledOverPrefix, IsDropOfNext, IsPartDropped, IsWholeDropped};
+ghost use Rattle.blk_sparse.specs.Clauses.{AllOut, BeginsLeft, CallsLeft, DoomedLeft, ForEachBehindOf, ForEachPartOf, ForKeyLeft, ForTold, LeftGone, PartOut, SessionStaysLeft, UndamagedLeft, UnlinkedStay};
+ghost use Rattle.blk_sparse.specs.Dropping.{ForEachBehind, ForEachIndexed, ForEachPartLeft, IsDropOfNext};
 
 use blk_addr::Addr;
 use blk_chain::find;
@@ -77,12 +73,12 @@ pub fn drop_parts_with<F: Folder, E: FnMut(u32)>(
 
     // Where the main item of an object is out, and perhaps parts of it, and what is left is counted, all its items are out in the end, in the same session.
     // It answers how many parts were removed, and the sum of their costs.
-    ensures out { OnOk result (ForSome (F.told folder.old).files (λ from. ForEachLeft key.now (cast_unsigned w64 signature) from (λ state layout keep unlinked number object. ForSome (F.told folder.new).files (IsWholeDropped state layout unlinked key.now)))) }
-    ensures gone { IfOk result (λ gone. ForSome (F.told folder.old).files (λ from. ForEachLeft key.now (cast_unsigned w64 signature) from (λ state layout keep unlinked number object. AreGone layout (map (part key.now) (parts_among key.now (filter keep state.uses))) gone))) }
-    ensures session { OnOk result (ForSome (F.told folder.old).files (λ from. ForEachLeft key.now (cast_unsigned w64 signature) from (λ state layout keep unlinked number object. ForSome (F.told folder.new).files (SameSession from)))) }
+    ensures out { OnOk result (ForTold (F.told folder.old) (ForKeyLeft key.now signature) (AllOut (F.told folder.new) key.now)) }
+    ensures gone { IfOk result (λ gone. ForTold (F.told folder.old) (ForKeyLeft key.now signature) (LeftGone key.now gone)) }
+    ensures session { OnOk result (ForTold (F.told folder.old) (ForKeyLeft key.now signature) (SessionStaysLeft (F.told folder.new))) }
 
     // Places that were unlinked at the start, as those of the main item, keep their bytes.
-    ensures keeps { OnOk result (ForSome (F.told folder.old).files (λ from. ForEachLeft key.now (cast_unsigned w64 signature) from (λ state layout keep unlinked number object. ForSome (F.told folder.new).files (KeepsUnlinked unlinked from)))) }
+    ensures keeps { OnOk result (ForTold (F.told folder.old) (ForKeyLeft key.now signature) (UnlinkedStay (F.told folder.new))) }
 
     // No more parts go than a list has nodes, and each costs less than 2^34 bytes.
     ensures few { IfOk result (λ gone. gone.items ≤ 131072) }
@@ -90,14 +86,14 @@ pub fn drop_parts_with<F: Folder, E: FnMut(u32)>(
 
     // `each` was called with the numbers of the parts that were left, in the order of the list, once each; or with a prefix of
     // them.
-    ensures each { OnOk result (ForSome (F.told folder.old).files (λ from. ForEachLeft key.now (cast_unsigned w64 signature) from (λ state layout keep unlinked number object. FoldsTo (λ p x q. E.step p x tt q) each.old (parts_among key.now (filter keep state.uses)) each.new))) }
-    ensures front { ForSome (F.told folder.old).files (λ from. ForEachLeft key.now (cast_unsigned w64 signature) from (λ state layout keep unlinked number object. IsCalledOverPrefix E (λ p x q. E.step p x tt q) (parts_among key.now (filter keep state.uses)) each.old each.new)) }
+    ensures each { OnOk result (ForTold (F.told folder.old) (ForKeyLeft key.now signature) (CallsLeft (λ p x q. E.step p x tt q) key.now each.old each.new)) }
+    ensures front { ForTold (F.told folder.old) (ForKeyLeft key.now signature) (BeginsLeft E (λ p x q. E.step p x tt q) key.now each.old each.new) }
 
     // On every folder it was called with some numbers.
     ensures calls { (numbers : List ℕ) × FoldsTo (λ p x q. E.step p x tt q) each.old numbers each.new }
 
     // At each word the durable contents with the object doomed are recovered.
-    ensures stops { ForSome (F.told folder.old).files (λ from. ForEachLeft key.now (cast_unsigned w64 signature) from (λ state layout keep unlinked number object. Passes (F.told folder.old) (F.told folder.new) (Finds (rest (doomed number state (Some object)))))) }
+    ensures stops { ForTold (F.told folder.old) (ForKeyLeft key.now signature) (DoomedLeft (F.told folder.old) (F.told folder.new)) }
 
     ensures is_open { ForSome (F.told folder.new).files (IsOpen files.now) }
 
@@ -105,7 +101,7 @@ pub fn drop_parts_with<F: Folder, E: FnMut(u32)>(
     ensures damaged { IfDamaged result (IsFailedCheck files.now (F.told folder.new)) }
 
     // An observable folder, in which parts are left so, reports no corruption.
-    ensures untold { ForSome (F.told folder.old).files (λ from. ForEachLeft key.now (cast_unsigned w64 signature) from (λ state layout keep unlinked number object. IfDamaged result (λ _. (F.told folder.old).files ≡ None))) }
+    ensures untold { ForTold (F.told folder.old) (ForKeyLeft key.now signature) (UndamagedLeft result (F.told folder.old)) }
 
     ensures writes { MayWrite F.told F.faults folder.old folder.new (IfDevice result) }
 {
@@ -138,19 +134,19 @@ pub(crate) fn drop_indexed_with<F: Folder, E: FnMut(u32)>(
     requires buffer { longest_name ≤ length buffer.old }
     requires callable { E.IsAlwaysCallable each.old }
     requires is_open { ForSome (F.told folder.old).files (IsOpen files.now) }
-    ensures out { OnOk result (ForSome (F.told folder.old).files (λ from. ForEachIndexed key.now indexed from (λ state layout keep unlinked number object. ForSome (F.told folder.new).files (IsWholeDropped state layout unlinked key.now)))) }
-    ensures gone { IfOk result (λ gone. ForSome (F.told folder.old).files (λ from. ForEachIndexed key.now indexed from (λ state layout keep unlinked number object. AreGone layout (map (part key.now) (parts_among key.now (filter keep state.uses))) gone))) }
-    ensures session { OnOk result (ForSome (F.told folder.old).files (λ from. ForEachIndexed key.now indexed from (λ state layout keep unlinked number object. ForSome (F.told folder.new).files (SameSession from)))) }
-    ensures keeps { OnOk result (ForSome (F.told folder.old).files (λ from. ForEachIndexed key.now indexed from (λ state layout keep unlinked number object. ForSome (F.told folder.new).files (KeepsUnlinked unlinked from)))) }
+    ensures out { OnOk result (ForTold (F.told folder.old) (ForEachIndexed key.now indexed) (AllOut (F.told folder.new) key.now)) }
+    ensures gone { IfOk result (λ gone. ForTold (F.told folder.old) (ForEachIndexed key.now indexed) (LeftGone key.now gone)) }
+    ensures session { OnOk result (ForTold (F.told folder.old) (ForEachIndexed key.now indexed) (SessionStaysLeft (F.told folder.new))) }
+    ensures keeps { OnOk result (ForTold (F.told folder.old) (ForEachIndexed key.now indexed) (UnlinkedStay (F.told folder.new))) }
     ensures few { IfOk result (λ gone. gone.items ≤ 131072) }
     ensures light { IfOk result (λ gone. gone.bytes ≤ 2 ^ 51) }
-    ensures each { OnOk result (ForSome (F.told folder.old).files (λ from. ForEachIndexed key.now indexed from (λ state layout keep unlinked number object. FoldsTo (λ p x q. E.step p x tt q) each.old (parts_among key.now (filter keep state.uses)) each.new))) }
-    ensures front { ForSome (F.told folder.old).files (λ from. ForEachIndexed key.now indexed from (λ state layout keep unlinked number object. IsCalledOverPrefix E (λ p x q. E.step p x tt q) (parts_among key.now (filter keep state.uses)) each.old each.new)) }
+    ensures each { OnOk result (ForTold (F.told folder.old) (ForEachIndexed key.now indexed) (CallsLeft (λ p x q. E.step p x tt q) key.now each.old each.new)) }
+    ensures front { ForTold (F.told folder.old) (ForEachIndexed key.now indexed) (BeginsLeft E (λ p x q. E.step p x tt q) key.now each.old each.new) }
     ensures calls { (numbers : List ℕ) × FoldsTo (λ p x q. E.step p x tt q) each.old numbers each.new }
-    ensures stops { ForSome (F.told folder.old).files (λ from. ForEachIndexed key.now indexed from (λ state layout keep unlinked number object. Passes (F.told folder.old) (F.told folder.new) (Finds (rest (doomed number state (Some object)))))) }
+    ensures stops { ForTold (F.told folder.old) (ForEachIndexed key.now indexed) (DoomedLeft (F.told folder.old) (F.told folder.new)) }
     ensures is_open { ForSome (F.told folder.new).files (IsOpen files.now) }
     ensures damaged { IfDamaged result (IsFailedCheck files.now (F.told folder.new)) }
-    ensures untold { ForSome (F.told folder.old).files (λ from. ForEachIndexed key.now indexed from (λ state layout keep unlinked number object. IfDamaged result (λ _. (F.told folder.old).files ≡ None))) }
+    ensures untold { ForTold (F.told folder.old) (ForEachIndexed key.now indexed) (UndamagedLeft result (F.told folder.old)) }
     ensures writes { MayWrite F.told F.faults folder.old folder.new (IfDevice result) }
 {
     if !indexed.any {
@@ -177,12 +173,12 @@ fn drop_next<F: Folder>(
     ensures next { IfOk result (λ next. ForSome (F.told folder.old).files (λ image. ForEachBehind key.now (cast_unsigned w64 signature) from image (λ state layout keep unlinked number object is. ForSome (F.told folder.new).files (IsDropOfNext state layout keep unlinked key.now number object is.front is.items next image)))) }
     ensures small { IfOk result (λ next. IfSome next (λ dropped. dropped.charge < 2 ^ 34)) }
     ensures stands { IfOk result (λ next. IfSome next (λ dropped. IfSome dropped.behind (λ node. IsTrue (is_node_among files.now node)))) }
-    ensures session { OnOk result (ForSome (F.told folder.old).files (λ image. ForEachBehind key.now (cast_unsigned w64 signature) from image (λ state layout keep unlinked number object is. ForSome (F.told folder.new).files (SameSession image)))) }
-    ensures keeps { OnOk result (ForSome (F.told folder.old).files (λ image. ForEachBehind key.now (cast_unsigned w64 signature) from image (λ state layout keep unlinked number object is. ForSome (F.told folder.new).files (KeepsUnlinked unlinked image)))) }
-    ensures stops { ForSome (F.told folder.old).files (λ image. ForEachBehind key.now (cast_unsigned w64 signature) from image (λ state layout keep unlinked number object is. Passes (F.told folder.old) (F.told folder.new) (Finds (rest (doomed number state (Some object)))))) }
+    ensures session { OnOk result (ForTold (F.told folder.old) (ForEachBehindOf key.now signature from) (SessionStaysLeft (F.told folder.new))) }
+    ensures keeps { OnOk result (ForTold (F.told folder.old) (ForEachBehindOf key.now signature from) (UnlinkedStay (F.told folder.new))) }
+    ensures stops { ForTold (F.told folder.old) (ForEachBehindOf key.now signature from) (DoomedLeft (F.told folder.old) (F.told folder.new)) }
     ensures is_open { ForSome (F.told folder.new).files (IsOpen files.now) }
     ensures damaged { IfDamaged result (IsFailedCheck files.now (F.told folder.new)) }
-    ensures untold { ForSome (F.told folder.old).files (λ image. ForEachBehind key.now (cast_unsigned w64 signature) from image (λ state layout keep unlinked number object is. IfDamaged result (λ _. (F.told folder.old).files ≡ None))) }
+    ensures untold { ForTold (F.told folder.old) (ForEachBehindOf key.now signature from) (UndamagedLeft result (F.told folder.old)) }
     ensures writes { MayWrite F.told F.faults folder.old folder.new (IfDevice result) }
 {
     let Some(part) = next_part(folder, files, key, from, buffer)? else {
@@ -215,15 +211,15 @@ fn drop_part<F: Folder>(
     requires stands { IsTrue (stands_among files.now part.now.entry) }
     requires buffer { longest_name ≤ length buffer.old }
     requires is_open { ForSome (F.told folder.old).files (IsOpen files.now) }
-    ensures out { OnOk result (ForSome (F.told folder.old).files (λ from. ForEachPartLeft key.now (cast_unsigned w64 signature) part.now.number part.now.node from (λ state layout keep unlinked number object was. ForSome (F.told folder.new).files (IsPartDropped state layout keep unlinked key.now number object part.now.number)))) }
+    ensures out { OnOk result (ForTold (F.told folder.old) (ForEachPartOf key.now signature part.now) (PartOut (F.told folder.new) key.now part.now.number)) }
     ensures charge { IfOk result (λ charge. ForSome (F.told folder.old).files (λ from. ForEachPartLeft key.now (cast_unsigned w64 signature) part.now.number part.now.node from (λ state layout keep unlinked number object was. charge ≡ charge_of was))) }
     ensures small { IfOk result (λ charge. charge < 2 ^ 34) }
-    ensures session { OnOk result (ForSome (F.told folder.old).files (λ from. ForEachPartLeft key.now (cast_unsigned w64 signature) part.now.number part.now.node from (λ state layout keep unlinked number object was. ForSome (F.told folder.new).files (SameSession from)))) }
-    ensures keeps { OnOk result (ForSome (F.told folder.old).files (λ from. ForEachPartLeft key.now (cast_unsigned w64 signature) part.now.number part.now.node from (λ state layout keep unlinked number object was. ForSome (F.told folder.new).files (KeepsUnlinked unlinked from)))) }
-    ensures stops { ForSome (F.told folder.old).files (λ from. ForEachPartLeft key.now (cast_unsigned w64 signature) part.now.number part.now.node from (λ state layout keep unlinked number object was. Passes (F.told folder.old) (F.told folder.new) (Finds (rest (doomed number state (Some object)))))) }
+    ensures session { OnOk result (ForTold (F.told folder.old) (ForEachPartOf key.now signature part.now) (SessionStaysLeft (F.told folder.new))) }
+    ensures keeps { OnOk result (ForTold (F.told folder.old) (ForEachPartOf key.now signature part.now) (UnlinkedStay (F.told folder.new))) }
+    ensures stops { ForTold (F.told folder.old) (ForEachPartOf key.now signature part.now) (DoomedLeft (F.told folder.old) (F.told folder.new)) }
     ensures is_open { ForSome (F.told folder.new).files (IsOpen files.now) }
     ensures damaged { ForSome (F.told folder.old).files (SaysPart part.now.entry key.now part.now.number) → IfDamaged result (IsFailedCheck files.now (F.told folder.new)) }
-    ensures untold { ForSome (F.told folder.old).files (λ from. ForEachPartLeft key.now (cast_unsigned w64 signature) part.now.number part.now.node from (λ state layout keep unlinked number object was. IfDamaged result (λ _. (F.told folder.old).files ≡ None))) }
+    ensures untold { ForTold (F.told folder.old) (ForEachPartOf key.now signature part.now) (UndamagedLeft result (F.told folder.old)) }
     ensures writes { MayWrite F.told F.faults folder.old folder.new (IfDevice result) }
 {
     let len = child_name(key, signature, part.number, buffer);

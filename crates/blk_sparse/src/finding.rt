@@ -10,9 +10,7 @@ ghost use Rattle.blk_io.specs.Faults.{IfDamaged, IfDevice};
 ghost use Rattle.blk_disk.specs.Open.{IsOpen};
 ghost use Rattle.blk_disk.specs.Tables.{stands_among};
 ghost use Rattle.blk_object.specs.FailedChecks.{IsFailedCheck};
-ghost use Rattle.blk_sparse.specs.Finding.{ArePartsFound};
-ghost use Rattle.blk_sparse.specs.Parts.{ForEachOfKey};
-ghost use Rattle.blk_sparse.specs.SparseObjects.{ForEachKeptParent};
+ghost use Rattle.blk_sparse.specs.Clauses.{ForEachOfParent, ForEachWithName, ForTold, HasPartsIn, Undamaged};
 
 use crate::children::{Parent, read_key};
 use crate::parts::{ParentName, find_part};
@@ -50,7 +48,7 @@ pub fn find_parts<F: Folder>(
     requires is_open { ForSome (F.told folder.old).files (IsOpen files.now) }
 
     // These are the records of the parts of each object that a kept state has with this parent.
-    ensures parts { IfOk result (λ found. ForSome (F.told folder.old).files (λ from. ForEachKeptParent parent.now.node parent.now.entry (cast_unsigned w64 parent.now.signature) from (λ state layout unlinked number object. ArePartsFound layout object offset count found))) }
+    ensures parts { IfOk result (λ found. ForTold (F.told folder.old) (ForEachOfParent parent.now) (HasPartsIn offset count found)) }
 
     // On every folder the records that are found are valid.
     ensures first_kind { IfOk result (λ found. IfSome found.first (λ entry. kind_of entry ≡ blocks_256)) }
@@ -62,7 +60,7 @@ pub fn find_parts<F: Folder>(
 
     // Corruption is a check that fails on what is read here. An observable folder, with such an object, gives none.
     ensures damaged { IfDamaged result (IsFailedCheck files.now (F.told folder.new)) }
-    ensures untold { ForSome (F.told folder.old).files (λ from. ForEachKeptParent parent.now.node parent.now.entry (cast_unsigned w64 parent.now.signature) from (λ state layout unlinked number object. IfDamaged result (λ _. (F.told folder.old).files ≡ None))) }
+    ensures untold { ForTold (F.told folder.old) (ForEachOfParent parent.now) (Undamaged result (F.told folder.old)) }
 {
     let len = read_key(folder, files, parent.entry, name)?;
     let (key, buffer) = name.split_at_mut(LONGEST_KEY as usize);
@@ -90,14 +88,14 @@ fn find_covered<F: Folder>(
     requires few { count ≤ part_size }
     requires inside { offset + count ≤ largest_offset }
     requires is_open { ForSome (F.told folder.old).files (IsOpen files.now) }
-    ensures parts { IfOk result (λ found. ForSome (F.told folder.old).files (λ from. ForEachOfKey parent.entry.key.now (cast_unsigned w64 parent.entry.signature) from (λ state layout unlinked at object node entry. ArePartsFound layout object offset count found))) }
+    ensures parts { IfOk result (λ found. ForTold (F.told folder.old) (ForEachWithName parent.entry) (HasPartsIn offset count found)) }
     ensures first_kind { IfOk result (λ found. IfSome found.first (λ entry. kind_of entry ≡ blocks_256)) }
     ensures first_stands { IfOk result (λ found. IfSome found.first (λ entry. IsTrue (stands_among files.now entry))) }
     ensures second_kind { IfOk result (λ found. IfSome found.second (λ entry. kind_of entry ≡ blocks_256)) }
     ensures second_stands { IfOk result (λ found. IfSome found.second (λ entry. IsTrue (stands_among files.now entry))) }
     ensures reads { ReadsOnly F.told F.faults folder.old folder.new (IfDevice result) }
     ensures damaged { IfDamaged result (IsFailedCheck files.now (F.told folder.new)) }
-    ensures untold { ForSome (F.told folder.old).files (λ from. ForEachOfKey parent.entry.key.now (cast_unsigned w64 parent.entry.signature) from (λ state layout unlinked at object node entry. IfDamaged result (λ _. (F.told folder.old).files ≡ None))) }
+    ensures untold { ForTold (F.told folder.old) (ForEachWithName parent.entry) (Undamaged result (F.told folder.old)) }
 {
     let (number, place) = child_of(offset);
     let first = find_part(folder, files, parent, number, buffer)?;

@@ -12,9 +12,8 @@ ghost use Rattle.blk_io.specs.Faults.{IfDamaged, IfDevice};
 ghost use Rattle.blk_disk.specs.Open.{IsOpen};
 ghost use Rattle.blk_disk.specs.Tables.{stands_among};
 ghost use Rattle.blk_object.specs.FailedChecks.{IsFailedCheck};
-ghost use Rattle.blk_sparse.specs.Measuring.{ForEachParentMeasured, ForEachPartMeasured, ForEachPlainMeasured, IsMeasured, IsPieceMeasured};
-ghost use Rattle.blk_sparse.specs.Parts.{ForEachOfKey};
-ghost use Rattle.blk_sparse.specs.SparseObjects.{with_signature};
+ghost use Rattle.blk_sparse.specs.Clauses.{ForEachKeyed, ForEachMeasured, ForTold, HasMeasure, HasPieceMeasure, Measures, MeasuresPart, MeasuresPlain, OpaqueIfDamaged, Undamaged};
+ghost use Rattle.blk_sparse.specs.Measuring.{ForEachPartMeasured, ForEachPlainMeasured, IsMeasured};
 
 use crate::children::{Parent, read_key};
 use crate::measured_sums::{measured_one, measured_two};
@@ -73,13 +72,13 @@ pub fn measure<F: Folder>(
     requires few { count ≤ part_size }
     requires inside { offset + count ≤ largest_offset }
     requires is_open { ForSome (F.told folder.old).files (IsOpen files.now) }
-    ensures measured { IfOk result (λ found. ForSome (F.told folder.old).files (λ from. ForEachParentMeasured parent.now.node parent.now.entry (cast_unsigned w64 parent.now.signature) from (λ layout object. IsMeasured layout object (cast_unsigned w64 parent.now.signature) offset count found))) }
+    ensures measured { IfOk result (λ found. ForTold (F.told folder.old) (ForEachMeasured parent.now) (Measures parent.now.signature offset count found)) }
     ensures light { IfOk result (λ found. found.bytes < 2 ^ 36) }
     ensures reads { ReadsOnly F.told F.faults folder.old folder.new (IfDevice result) }
 
     // Corruption is a check that fails on what is read here. An observable folder, with such an object, gives none.
     ensures damaged { IfDamaged result (IsFailedCheck files.now (F.told folder.new)) }
-    ensures untold { ForSome (F.told folder.old).files (λ from. ForEachParentMeasured parent.now.node parent.now.entry (cast_unsigned w64 parent.now.signature) from (λ layout object. IfDamaged result (λ _. (F.told folder.old).files ≡ None))) }
+    ensures untold { ForTold (F.told folder.old) (ForEachMeasured parent.now) (λ _ _ _. OpaqueIfDamaged result (F.told folder.old)) }
 {
     let len = read_key(folder, files, parent.entry, name)?;
     let (key, buffer) = name.split_at_mut(LONGEST_KEY as usize);
@@ -112,12 +111,12 @@ fn measure_covered<F: Folder>(
     requires few { count ≤ part_size }
     requires inside { offset + count ≤ largest_offset }
     requires is_open { ForSome (F.told folder.old).files (IsOpen files.now) }
-    ensures measured { IfOk result (λ found. ForSome (F.told folder.old).files (λ from. ForEachOfKey key.now (cast_unsigned w64 signature) from (λ state layout unlinked at object node entry. IsMeasured layout object (cast_unsigned w64 signature) offset count found))) }
+    ensures measured { IfOk result (λ found. ForTold (F.told folder.old) (ForEachKeyed key.now signature) (HasMeasure signature offset count found)) }
     ensures light { IfOk result (λ found. found.bytes < 2 ^ 36) }
     ensures buffer { length buffer.new ≡ length buffer.old }
     ensures reads { ReadsOnly F.told F.faults folder.old folder.new (IfDevice result) }
     ensures damaged { IfDamaged result (IsFailedCheck files.now (F.told folder.new)) }
-    ensures untold { ForSome (F.told folder.old).files (λ from. ForEachOfKey key.now (cast_unsigned w64 signature) from (λ state layout unlinked at object node entry. IfDamaged result (λ _. (F.told folder.old).files ≡ None))) }
+    ensures untold { ForTold (F.told folder.old) (ForEachKeyed key.now signature) (Undamaged result (F.told folder.old)) }
 {
     let (number, place) = child_of(offset);
     let end = u64::from(place) + count;
@@ -156,12 +155,12 @@ fn measure_piece<F: Folder>(
     requires buffer { longest_name ≤ length buffer.old }
     requires end { end ≤ part_size }
     requires is_open { ForSome (F.told folder.old).files (IsOpen files.now) }
-    ensures measured { IfOk result (λ piece. ForSome (F.told folder.old).files (λ from. ForEachOfKey key.now (cast_unsigned w64 signature) from (λ state layout unlinked at object node entry. IsPieceMeasured layout object (cast_unsigned w64 signature) number end piece))) }
+    ensures measured { IfOk result (λ piece. ForTold (F.told folder.old) (ForEachKeyed key.now signature) (HasPieceMeasure signature number end piece)) }
     ensures light { IfOk result (λ piece. piece.charged + piece.bytes < 2 ^ 35) }
     ensures buffer { length buffer.new ≡ length buffer.old }
     ensures reads { ReadsOnly F.told F.faults folder.old folder.new (IfDevice result) }
     ensures damaged { IfDamaged result (IsFailedCheck files.now (F.told folder.new)) }
-    ensures untold { ForSome (F.told folder.old).files (λ from. ForEachOfKey key.now (cast_unsigned w64 signature) from (λ state layout unlinked at object node entry. IfDamaged result (λ _. (F.told folder.old).files ≡ None))) }
+    ensures untold { ForTold (F.told folder.old) (ForEachKeyed key.now signature) (Undamaged result (F.told folder.old)) }
 {
     let parent = ParentName { key, signature };
     match find_part(folder, files, parent, number, buffer)? {
@@ -181,11 +180,11 @@ fn measure_there<F: Folder>(
     requires stands { IsTrue (stands_among files.now part) }
     requires end { end ≤ part_size }
     requires is_open { ForSome (F.told folder.old).files (IsOpen files.now) }
-    ensures measured { IfOk result (λ piece. ForSome (F.told folder.old).files (λ from. ForEachPartMeasured part from (λ layout object signature n. IsPieceMeasured layout object signature n end piece))) }
+    ensures measured { IfOk result (λ piece. ForTold (F.told folder.old) (ForEachPartMeasured part) (MeasuresPart end piece)) }
     ensures light { IfOk result (λ piece. piece.charged + piece.bytes < 2 ^ 35) }
     ensures reads { ReadsOnly F.told F.faults folder.old folder.new (IfDevice result) }
     ensures damaged { IfDamaged result (IsFailedCheck files.now (F.told folder.new)) }
-    ensures untold { ForSome (F.told folder.old).files (λ from. ForEachPartMeasured part from (λ layout object signature n. IfDamaged result (λ _. (F.told folder.old).files ≡ None))) }
+    ensures untold { ForTold (F.told folder.old) (ForEachPartMeasured part) (λ _ _ _ _ _. OpaqueIfDamaged result (F.told folder.old)) }
 {
     let node = node_of(folder, files, part)?;
     let head = read_head(folder, files, part)?;
@@ -237,13 +236,13 @@ pub fn measure_plain<F: Folder>(
     requires few { count ≤ part_size }
     requires inside { offset + count ≤ largest_offset }
     requires is_open { ForSome (F.told folder.old).files (IsOpen files.now) }
-    ensures measured { IfOk result (λ found. ForSome (F.told folder.old).files (λ from. ForEachPlainMeasured entry from (λ layout object. IsMeasured layout (with_signature object (cast_unsigned w64 signature)) (cast_unsigned w64 signature) offset count found))) }
+    ensures measured { IfOk result (λ found. ForTold (F.told folder.old) (ForEachPlainMeasured entry) (MeasuresPlain signature offset count found)) }
     ensures light { IfOk result (λ found. found.bytes < 2 ^ 36) }
     ensures reads { ReadsOnly F.told F.faults folder.old folder.new (IfDevice result) }
 
     // Corruption is a check that fails on what is read here. An observable folder, with such an object, gives none.
     ensures damaged { IfDamaged result (IsFailedCheck files.now (F.told folder.new)) }
-    ensures untold { ForSome (F.told folder.old).files (λ from. ForEachPlainMeasured entry from (λ layout object. IfDamaged result (λ _. (F.told folder.old).files ≡ None))) }
+    ensures untold { ForTold (F.told folder.old) (ForEachPlainMeasured entry) (λ _ _ _. OpaqueIfDamaged result (F.told folder.old)) }
 {
     let len = read_key(folder, files, entry, name)?;
     let (key, buffer) = name.split_at_mut(LONGEST_KEY as usize);

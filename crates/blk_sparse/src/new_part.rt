@@ -1,12 +1,11 @@
 // A part that doesn't exist is made, with its first piece.
-ghost use Rattle.std.specs.Prelude.{◌≡◌, ◌+◌, ◌≤◌, ◌<◌, [], ◌∷◌, IfOk, IsTrue, None, OnOk, length, true};
+ghost use Rattle.std.specs.Prelude.{◌≡◌, ◌+◌, ◌≤◌, ◌<◌, [], ◌∷◌, IfOk, IsTrue, OnOk, length, true};
 ghost use Rattle.std.specs.Int.{cast_unsigned, w64};
 ghost use Rattle.std.specs.Option.{ForSome};
 ghost use Rattle.spec_image.specs.Told.{Passes, MayWrite, ReadsOnly};
 ghost use Rattle.blk_model.specs.Bytes.{overwritten};
-ghost use Rattle.blk_model.specs.Holding.{rest};
 ghost use Rattle.blk_model.specs.Sizes.{longest_key, part_count, part_size, signatures};
-ghost use Rattle.spec_format.specs.Address.{block_count, blocks_256, is_address, kind_of, rankings};
+ghost use Rattle.spec_format.specs.Address.{blocks_256, is_address, kind_of};
 ghost use Rattle.spec_format.specs.Names.{longest_name};
 ghost use Rattle.spec_format.specs.SparseIndex.{parent_index_length, part_index_length};
 ghost use Rattle.spec_format.specs.Storage as storage;
@@ -18,11 +17,11 @@ ghost use Rattle.blk_entry.specs.Keys.{stores};
 ghost use Rattle.blk_entry.specs.Writing.{HoldsLongKey, IsLongPlace, LiesApart};
 ghost use Rattle.blk_alloc.specs.Extending.{KeepsStanding};
 ghost use Rattle.blk_stream.specs.Streams.{address_word};
-ghost use Rattle.law_state.specs.Changes.{Finds, StillFinds};
+ghost use Rattle.law_state.specs.Changes.{StillFinds};
 ghost use Rattle.blk_object.specs.FailedChecks.{IsFailedCheck};
 ghost use Rattle.blk_object.specs.Making.{LeavesRoom, Takes};
-ghost use Rattle.blk_sparse.specs.NewParts.{ForEachLacking, ForEachPartToBeListed, HasIndexPlace, IsBeingNoted, IsFirstIndex, IsBitNoted, IsPartListed, AreStoredAt, IsWholeBeforeItsBit, TakesPart};
-ghost use Rattle.blk_sparse.specs.SparseObjects.{KeepsParentThen, with_piece, with_piece_written};
+ghost use Rattle.blk_sparse.specs.Clauses.{DurableAtNode, DurableListing, ForEachWithout, ForNewPart, ForTold, IsEntryPlace, IsNodePlace, ListsPart, OpaqueIfDamaged, OrdersNewPart, UndamagedAtNode, UndamagedWhere, WhereSpace, WritesNewPart};
+ghost use Rattle.blk_sparse.specs.NewParts.{ForEachPartToBeListed, HasIndexPlace, IsBeingNoted, IsFirstIndex, IsBitNoted, AreStoredAt, TakesPart};
 
 use crate::part_record::write_part;
 use blk_addr::Addr;
@@ -67,13 +66,13 @@ fn take_stream<F: Folder>(
     requires most { offset + length bytes.now ≤ most_stream_bytes }
     requires is_open { ForSome (F.told folder.old).files (IsOpen files.old) }
     ensures address { IfOk result (λ addr. IsTrue (is_address addr)) }
-    ensures taken { IfOk result (λ addr. ForSome (F.told folder.old).files (λ from. LeavesRoom 1 from → ForSome (F.told folder.new).files (Takes (addr ∷ []) from))) }
-    ensures stored { IfOk result (λ addr. ForSome (F.told folder.old).files (λ from. LeavesRoom 1 from → ForSome (F.told folder.new).files (AreStoredAt addr (overwritten [] offset bytes.now)))) }
+    ensures taken { IfOk result (λ addr. WhereSpace 1 (F.told folder.old) (F.told folder.new) (Takes (addr ∷ []))) }
+    ensures stored { IfOk result (λ addr. WhereSpace 1 (F.told folder.old) (F.told folder.new) (λ _. AreStoredAt addr (overwritten [] offset bytes.now))) }
     ensures keeps { KeepsStanding files.old files.new }
     ensures is_open { OnOk result (ForSome (F.told folder.new).files (IsOpen files.new)) }
     ensures stops { ForSome (F.told folder.old).files (λ from. LeavesRoom 1 from → Passes (F.told folder.old) (F.told folder.new) (StillFinds [] from)) }
     ensures damaged { IfDamaged result (IsFailedCheck files.new (F.told folder.new)) }
-    ensures untold { ForSome (F.told folder.old).files (LeavesRoom 1) → IfDamaged result (λ _. (F.told folder.old).files ≡ None) }
+    ensures untold { UndamagedWhere result (F.told folder.old) (LeavesRoom 1) }
     ensures writes { MayWrite F.told F.faults folder.old folder.new (IfDevice result) }
 {
     let addr = store_new(folder, files, offset, bytes)?;
@@ -97,18 +96,18 @@ fn take_part<F: Folder>(
     requires most { place + length piece.now ≤ part_size }
     requires map { length map.now ≡ part_index_length }
     requires is_open { ForSome (F.told folder.old).files (IsOpen files.old) }
-    ensures entry { IfOk result (λ places. (kind_of places.places.entry ≡ blocks_256) × (block_count places.places.entry ≡ storage.entry_blocks name_len) × IsTrue (is_address places.places.entry) × IsTrue (stands_among files.new places.places.entry)) }
-    ensures node { IfOk result (λ places. (kind_of places.places.node ≡ rankings) × IsTrue (is_address places.places.node) × IsTrue (stands_among files.new places.places.node)) }
+    ensures entry { IfOk result (λ places. IsEntryPlace files.new (storage.entry_blocks name_len) places.places.entry) }
+    ensures node { IfOk result (λ places. IsNodePlace files.new places.places.node) }
     ensures long { IfOk result (λ places. IsLongPlace files.new name_len places.places.long_key) }
     ensures holds { IfOk result (λ places. ForSome (F.told folder.new).files (HoldsLongKey places.places.long_key name_len)) }
     ensures apart { IfOk result (λ places. LiesApart places.places.entry places.places.long_key) }
     ensures streams { IfOk result (λ places. IsTrue (is_address places.stored) × IsTrue (is_address places.index)) }
     ensures keeps { KeepsStanding files.old files.new }
-    ensures taken { IfOk result (λ places. ForSome (F.told folder.old).files (λ from. LeavesRoom 5 from → ForSome (F.told folder.new).files (TakesPart places (overwritten [] place piece.now) map.now from))) }
+    ensures taken { IfOk result (λ places. WhereSpace 5 (F.told folder.old) (F.told folder.new) (TakesPart places (overwritten [] place piece.now) map.now)) }
     ensures is_open { OnOk result (ForSome (F.told folder.new).files (IsOpen files.new)) }
     ensures stops { ForSome (F.told folder.old).files (λ from. LeavesRoom 5 from → Passes (F.told folder.old) (F.told folder.new) (StillFinds [] from)) }
     ensures damaged { IfDamaged result (IsFailedCheck files.new (F.told folder.new)) }
-    ensures untold { ForSome (F.told folder.old).files (LeavesRoom 5) → IfDamaged result (λ _. (F.told folder.old).files ≡ None) }
+    ensures untold { UndamagedWhere result (F.told folder.old) (LeavesRoom 5) }
     ensures writes { MayWrite F.told F.faults folder.old folder.new (IfDevice result) }
 {
     let index = take_stream(folder, files, 0, map)?;
@@ -131,11 +130,11 @@ fn list_part<F: Folder>(
     requires stands { IsTrue (is_record_among files.now entry) }
     requires node { IsTrue (is_node_among files.now node) }
     requires is_open { ForSome (F.told folder.old).files (IsOpen files.now) }
-    ensures listed { OnOk result (ForSome (F.told folder.old).files (λ from. ForEachPartToBeListed entry node from (λ state objects layout unlinked key n was seen loaded. ForSome (F.told folder.new).files (IsPartListed state layout key n was seen loaded from)))) }
-    ensures stops { ForSome (F.told folder.old).files (λ from. ForEachPartToBeListed entry node from (λ state objects layout unlinked key n was seen loaded. Passes (F.told folder.old) (F.told folder.new) (Finds (rest state)))) }
+    ensures listed { OnOk result (ForTold (F.told folder.old) (ForEachPartToBeListed entry node) (ListsPart (F.told folder.new))) }
+    ensures stops { ForTold (F.told folder.old) (ForEachPartToBeListed entry node) (DurableListing (F.told folder.old) (F.told folder.new)) }
     ensures is_open { ForSome (F.told folder.new).files (IsOpen files.now) }
     ensures damaged { IfDamaged result (IsFailedCheck files.now (F.told folder.new)) }
-    ensures untold { ForSome (F.told folder.old).files (λ from. ForEachPartToBeListed entry node from (λ state objects layout unlinked key n was seen loaded. IfDamaged result (λ _. (F.told folder.old).files ≡ None))) }
+    ensures untold { ForTold (F.told folder.old) (ForEachPartToBeListed entry node) (λ _ _ _ _ _ _ _ _ _ _. OpaqueIfDamaged result (F.told folder.old)) }
     ensures writes { MayWrite F.told F.faults folder.old folder.new (IfDevice result) }
 {
     insert_front(folder, files, node)?;
@@ -150,7 +149,7 @@ fn index_place<F: Folder>(folder: &mut F, files: &BlockFiles, parent: Addr) -> R
     ensures stores { IfOk result (λ addr. stores files.now parent_index_length addr ≡ true) }
     ensures reads { ReadsOnly F.told F.faults folder.old folder.new (IfDevice result) }
     ensures damaged { IfDamaged result (IsFailedCheck files.now (F.told folder.new)) }
-    ensures untold { ForSome (F.told folder.old).files (Agrees files.now) → ForSome (F.told folder.old).files (HasIndexPlace files.now parent) → IfDamaged result (λ _. (F.told folder.old).files ≡ None) }
+    ensures untold { ForSome (F.told folder.old).files (Agrees files.now) → UndamagedWhere result (F.told folder.old) (HasIndexPlace files.now parent) }
 {
     let head = read_head(folder, files, parent)?;
     let word = head.addrs[2];
@@ -178,7 +177,7 @@ fn note_part<F: Folder>(
     ensures stops { ForSome (F.told folder.old).files (λ from. Passes (F.told folder.old) (F.told folder.new) (IsBeingNoted files.now parent part from)) }
     ensures is_open { ForSome (F.told folder.new).files (IsOpen files.now) }
     ensures damaged { IfDamaged result (IsFailedCheck files.now (F.told folder.new)) }
-    ensures untold { ForSome (F.told folder.old).files (HasIndexPlace files.now parent) → IfDamaged result (λ _. (F.told folder.old).files ≡ None) }
+    ensures untold { UndamagedWhere result (F.told folder.old) (HasIndexPlace files.now parent) }
     ensures writes { MayWrite F.told F.faults folder.old folder.new (IfDevice result) }
 {
     let addr = index_place(folder, files, parent)?;
@@ -238,13 +237,13 @@ pub(crate) fn make_part<F: Folder>(
 
     // For each dirty object that has this parent and lacks this part: in the end the folder keeps the state with the piece written, but for the counters, which
     // come later.
-    ensures written { OnOk result (ForSome (F.told folder.old).files (λ from. ForEachLacking parent name.entry.child name.entry.bytes.now from (λ state layout unlinked number object node. ForSome (F.told folder.new).files (KeepsParentThen (with_piece_written state number object name.entry.child.part place piece.now) layout unlinked number (with_piece object name.entry.child.part place piece.now) node parent (cast_unsigned w64 name.entry.child.signature) from)))) }
+    ensures written { OnOk result (ForNewPart (F.told folder.old) parent name.entry (WritesNewPart place piece.now (F.told folder.new))) }
 
     // At each word the old durable contents are recovered: a dirty object isn't durable.
-    ensures stops { ForSome (F.told folder.old).files (λ from. ForEachLacking parent name.entry.child name.entry.bytes.now from (λ state layout unlinked number object node. Passes (F.told folder.old) (F.told folder.new) (Finds (rest state)))) }
+    ensures stops { ForTold (F.told folder.old) (ForEachWithout parent name.entry) (DurableAtNode (F.told folder.old) (F.told folder.new)) }
 
     // It is whole, in the list and in its chain, before its parent's bit is set.
-    ensures ordered { OnOk result (ForSome (F.told folder.old).files (λ from. ForEachLacking parent name.entry.child name.entry.bytes.now from (λ state layout unlinked number object node. IsWholeBeforeItsBit files.new state layout object.key name.entry.bytes.now name.entry.child.part parent (F.told folder.old) (F.told folder.new)))) }
+    ensures ordered { OnOk result (ForNewPart (F.told folder.old) parent name.entry (OrdersNewPart files.new (F.told folder.new))) }
 
     // What was valid still is.
     ensures keeps { KeepsStanding files.old files.new }
@@ -254,7 +253,7 @@ pub(crate) fn make_part<F: Folder>(
     ensures damaged { IfDamaged result (IsFailedCheck files.new (F.told folder.new)) }
 
     // An observable folder, with such an object, reports no corruption.
-    ensures untold { ForSome (F.told folder.old).files (λ from. ForEachLacking parent name.entry.child name.entry.bytes.now from (λ state layout unlinked number object node. IfDamaged result (λ _. (F.told folder.old).files ≡ None))) }
+    ensures untold { ForTold (F.told folder.old) (ForEachWithout parent name.entry) (UndamagedAtNode result (F.told folder.old)) }
 
     ensures writes { MayWrite F.told F.faults folder.old folder.new (IfDevice result) }
 {

@@ -1,29 +1,21 @@
 // An object with an index is removed with its parts, or doomed.
-ghost use Rattle.std.specs.Prelude.{◌≡◌, ◌≤◌, ◌<◌, ◌==◌, ◌^◌, ℕ, All, IfOk, IfSome, IsTrue, List, None, OnOk, Some, false, filter, length, map, not};
+ghost use Rattle.std.specs.Prelude.{◌≡◌, ◌≤◌, ◌<◌, ◌==◌, ◌^◌, ℕ, All, IfOk, IfSome, IsTrue, List, None, OnOk, Some, false, length, map, not};
 ghost use Rattle.std.specs.Int.{cast_unsigned, w64};
 ghost use Rattle.std.specs.List.{FoldsTo, list_any};
 ghost use Rattle.std.specs.Option.{ForSome};
-ghost use Rattle.spec_image.specs.Told.{Passes, MayWrite, ReadsOnly};
+ghost use Rattle.spec_image.specs.Told.{MayWrite, ReadsOnly};
 ghost use Rattle.blk_model.specs.Effects.{doomed};
-ghost use Rattle.blk_model.specs.Holding.{rest};
-ghost use Rattle.blk_model.specs.Items.{part};
-ghost use Rattle.blk_model.specs.Room.{parts_among};
 ghost use Rattle.blk_model.specs.Sizes.{longest_key, signatures};
 ghost use Rattle.spec_format.specs.Address.{blocks_256, kind_of};
 ghost use Rattle.spec_format.specs.Names.{longest_name};
-ghost use Rattle.spec_format.specs.SparseIndex.{ParentIndex};
-ghost use Rattle.spec_folder.specs.Entries.{IsParent};
-ghost use Rattle.spec_folder.specs.Loads.{Loaded};
 ghost use Rattle.blk_io.specs.Faults.{IfDamaged, IfDevice};
 ghost use Rattle.blk_disk.specs.Open.{IsOpen};
 ghost use Rattle.blk_disk.specs.Tables.{Agrees, is_node_among, stands_among};
-ghost use Rattle.law_state.specs.Changes.{Finds, SameSession};
 ghost use Rattle.blk_object.specs.FailedChecks.{IsFailedCheck};
-ghost use Rattle.blk_object.specs.Freeing.{IsPlaceAmong, words_at};
-ghost use Rattle.blk_object.specs.Owning.{LoadsWith};
-ghost use Rattle.blk_object.specs.RemovingObjects.{FindsEither, IsOwnedBy};
-ghost use Rattle.blk_sparse.specs.Dropping.{HasNoBit, IsCalledOverPrefix, IsWholeDropped};
-ghost use Rattle.blk_sparse.specs.Parents.{AreGoneBeside, ArePartsTold, ForEachHeldParent, ForEachParent, ForEachRest, IsGoneWhole, IsGroupTold, IsHeldWhole, LoadsAsParent};
+ghost use Rattle.blk_object.specs.Freeing.{IsPlaceAmong};
+ghost use Rattle.blk_sparse.specs.Clauses.{AllOut, Began, BeginsLeft, Calls, CallsLeft, DoomedLeft, DoomsWhole, ForEachInUse, ForEachOwned, ForEachOwner, ForParentIndex, ForTold, GoesWhole, GroupGone, IsGenerationAt, LeftGoneBeside, MaybeDoomed, PartsGone, SessionStays, SessionStaysLeft, Undamaged, UndamagedLeft, UndamagedWhere};
+ghost use Rattle.blk_sparse.specs.Dropping.{HasNoBit};
+ghost use Rattle.blk_sparse.specs.Parents.{LoadsAsParent};
 
 use crate::dropping::{Gone, IndexedParts, drop_indexed_with};
 use blk_addr::Addr;
@@ -70,20 +62,20 @@ pub fn remove_parent_with<F: Folder, E: FnMut(u32)>(
 
     // Where these are its places and its cost, and there is such an object in a state that is kept, the state with it doomed is kept in the end, in the same
     // session. The answer has how many items went, and the sum of their costs.
-    ensures removed { OnOk result (ForSome (F.told folder.old).files (λ from. IsOwnedBy found.now.entry owned.now from → ForEachParent key.now node found.now.entry found.now.before from (λ state layout unlinked number object. ForSome (F.told folder.new).files (IsGoneWhole state layout unlinked number object)))) }
-    ensures gone { IfOk result (λ gone. ForSome (F.told folder.old).files (λ from. IsOwnedBy found.now.entry owned.now from → ForEachParent key.now node found.now.entry found.now.before from (λ state layout unlinked number object. IsGroupTold state layout key.now gone))) }
-    ensures session { OnOk result (ForSome (F.told folder.old).files (λ from. IsOwnedBy found.now.entry owned.now from → ForEachParent key.now node found.now.entry found.now.before from (λ state layout unlinked number object. ForSome (F.told folder.new).files (SameSession from)))) }
+    ensures removed { OnOk result (ForTold (F.told folder.old) (ForEachOwned key.now node found.now owned.now) (GoesWhole (F.told folder.new))) }
+    ensures gone { IfOk result (λ gone. ForTold (F.told folder.old) (ForEachOwned key.now node found.now owned.now) (GroupGone key.now gone)) }
+    ensures session { OnOk result (ForTold (F.told folder.old) (ForEachOwned key.now node found.now owned.now) (SessionStays (F.told folder.new))) }
 
     // `each` was called with the numbers of its parts, in the order of the LRU list, once each; or with a prefix of
     // them.
-    ensures each { OnOk result (ForSome (F.told folder.old).files (λ from. IsOwnedBy found.now.entry owned.now from → ForEachParent key.now node found.now.entry found.now.before from (λ state layout unlinked number object. FoldsTo (λ p x q. E.step p x tt q) each.old (parts_among key.now state.uses) each.new))) }
-    ensures front { ForSome (F.told folder.old).files (λ from. IsOwnedBy found.now.entry owned.now from → ForEachParent key.now node found.now.entry found.now.before from (λ state layout unlinked number object. IsCalledOverPrefix E (λ p x q. E.step p x tt q) (parts_among key.now state.uses) each.old each.new)) }
+    ensures each { OnOk result (ForTold (F.told folder.old) (ForEachOwned key.now node found.now owned.now) (Calls (λ p x q. E.step p x tt q) key.now each.old each.new)) }
+    ensures front { ForTold (F.told folder.old) (ForEachOwned key.now node found.now owned.now) (Began E (λ p x q. E.step p x tt q) key.now each.old each.new) }
 
     // On every folder it was called with some numbers.
     ensures calls { (numbers : List ℕ) × FoldsTo (λ p x q. E.step p x tt q) each.old numbers each.new }
 
     // At each word the old durable contents are recovered, or those with the object doomed.
-    ensures stops { ForSome (F.told folder.old).files (λ from. IsOwnedBy found.now.entry owned.now from → ForEachParent key.now node found.now.entry found.now.before from (λ state layout unlinked number object. Passes (F.told folder.old) (F.told folder.new) (FindsEither state (doomed number state (Some object))))) }
+    ensures stops { ForTold (F.told folder.old) (ForEachOwned key.now node found.now owned.now) (MaybeDoomed (F.told folder.old) (F.told folder.new)) }
 
     ensures is_open { ForSome (F.told folder.new).files (IsOpen files.now) }
 
@@ -91,7 +83,7 @@ pub fn remove_parent_with<F: Folder, E: FnMut(u32)>(
     ensures damaged { IfDamaged result (IsFailedCheck files.now (F.told folder.new)) }
 
     // An observable folder, with such an object, reports no corruption.
-    ensures untold { ForSome (F.told folder.old).files (λ from. IsOwnedBy found.now.entry owned.now from → ForEachParent key.now node found.now.entry found.now.before from (λ state layout unlinked number object. IfDamaged result (λ _. (F.told folder.old).files ≡ None))) }
+    ensures untold { ForTold (F.told folder.old) (ForEachOwned key.now node found.now owned.now) (Undamaged result (F.told folder.old)) }
 
     ensures writes { MayWrite F.told F.faults folder.old folder.new (IfDevice result) }
 {
@@ -129,12 +121,12 @@ pub fn doom_parent<F: Folder>(
 
     // Where there is such an object in a state that is kept, and `charge` is the cost of its main item, the state with it doomed is kept in the end, in the
     // same session. The answer has how many parts went, and the sum of their costs.
-    ensures doomed { OnOk result (ForSome (F.told folder.old).files (λ from. ForEachHeldParent key.now node found.now.entry found.now.before charge from (λ state layout unlinked number object. ForSome (F.told folder.new).files (IsHeldWhole state layout unlinked number object)))) }
-    ensures gone { IfOk result (λ gone. ForSome (F.told folder.old).files (λ from. ForEachHeldParent key.now node found.now.entry found.now.before charge from (λ state layout unlinked number object. ArePartsTold state layout key.now gone))) }
-    ensures session { OnOk result (ForSome (F.told folder.old).files (λ from. ForEachHeldParent key.now node found.now.entry found.now.before charge from (λ state layout unlinked number object. ForSome (F.told folder.new).files (SameSession from)))) }
+    ensures doomed { OnOk result (ForTold (F.told folder.old) (ForEachInUse key.now node found.now charge) (DoomsWhole (F.told folder.new))) }
+    ensures gone { IfOk result (λ gone. ForTold (F.told folder.old) (ForEachInUse key.now node found.now charge) (PartsGone key.now gone)) }
+    ensures session { OnOk result (ForTold (F.told folder.old) (ForEachInUse key.now node found.now charge) (SessionStays (F.told folder.new))) }
 
     // At each word the old durable contents are recovered, or those with the object doomed.
-    ensures stops { ForSome (F.told folder.old).files (λ from. ForEachHeldParent key.now node found.now.entry found.now.before charge from (λ state layout unlinked number object. Passes (F.told folder.old) (F.told folder.new) (FindsEither state (doomed number state (Some object))))) }
+    ensures stops { ForTold (F.told folder.old) (ForEachInUse key.now node found.now charge) (MaybeDoomed (F.told folder.old) (F.told folder.new)) }
 
     ensures is_open { ForSome (F.told folder.new).files (IsOpen files.now) }
 
@@ -142,7 +134,7 @@ pub fn doom_parent<F: Folder>(
     ensures damaged { IfDamaged result (IsFailedCheck files.now (F.told folder.new)) }
 
     // An observable folder, with such an object, reports no corruption.
-    ensures untold { ForSome (F.told folder.old).files (λ from. ForEachHeldParent key.now node found.now.entry found.now.before charge from (λ state layout unlinked number object. IfDamaged result (λ _. (F.told folder.old).files ≡ None))) }
+    ensures untold { ForTold (F.told folder.old) (ForEachInUse key.now node found.now charge) (Undamaged result (F.told folder.old)) }
 
     ensures writes { MayWrite F.told F.faults folder.old folder.new (IfDevice result) }
 {
@@ -165,13 +157,13 @@ pub fn read_signature<F: Folder>(
     requires stands { IsTrue (stands_among files.now entry) }
 
     // This is the generation of the parent that is loaded with this record.
-    ensures signature { IfOk result (λ signature. ForSome (F.told folder.old).files (λ image. (loaded : Loaded) (index : ParentIndex) → LoadsWith entry loaded image → loaded.role ≡ IsParent index → index.signature ≡ cast_unsigned w64 signature)) }
+    ensures signature { IfOk result (λ signature. ForSome (F.told folder.old).files (IsGenerationAt entry signature)) }
     ensures small { IfOk result (λ signature. cast_unsigned w64 signature < signatures) }
     ensures reads { ReadsOnly F.told F.faults folder.old folder.new (IfDevice result) }
 
     // Corruption is a check that fails on what is read here. An observable folder gives none where this is a parent's record.
     ensures damaged { IfDamaged result (IsFailedCheck files.now (F.told folder.new)) }
-    ensures untold { ForSome (F.told folder.old).files (Agrees files.now) → ForSome (F.told folder.old).files (LoadsAsParent entry) → IfDamaged result (λ _. (F.told folder.old).files ≡ None) }
+    ensures untold { ForSome (F.told folder.old).files (Agrees files.now) → UndamagedWhere result (F.told folder.old) (LoadsAsParent entry) }
 {
     let indexed = read_index(folder, files, entry)?;
     Ok(indexed.signature)
@@ -185,12 +177,12 @@ pub(crate) fn read_index<F: Folder>(
 ) -> Result<IndexedParts, Fault>
     requires kind { kind_of entry ≡ blocks_256 }
     requires stands { IsTrue (stands_among files.now entry) }
-    ensures signature { IfOk result (λ indexed. ForSome (F.told folder.old).files (λ image. (loaded : Loaded) (index : ParentIndex) → LoadsWith entry loaded image → loaded.role ≡ IsParent index → index.signature ≡ cast_unsigned w64 indexed.signature)) }
+    ensures signature { IfOk result (λ indexed. ForSome (F.told folder.old).files (IsGenerationAt entry indexed.signature)) }
     ensures small { IfOk result (λ indexed. cast_unsigned w64 indexed.signature < signatures) }
-    ensures none { IfOk result (λ indexed. ForSome (F.told folder.old).files (λ image. (loaded : Loaded) (index : ParentIndex) → LoadsWith entry loaded image → loaded.role ≡ IsParent index → indexed.any ≡ false → HasNoBit index)) }
+    ensures none { IfOk result (λ indexed. ForSome (F.told folder.old).files (ForParentIndex entry (λ index. indexed.any ≡ false → HasNoBit index))) }
     ensures reads { ReadsOnly F.told F.faults folder.old folder.new (IfDevice result) }
     ensures damaged { IfDamaged result (IsFailedCheck files.now (F.told folder.new)) }
-    ensures untold { ForSome (F.told folder.old).files (Agrees files.now) → ForSome (F.told folder.old).files (LoadsAsParent entry) → IfDamaged result (λ _. (F.told folder.old).files ≡ None) }
+    ensures untold { ForSome (F.told folder.old).files (Agrees files.now) → UndamagedWhere result (F.told folder.old) (LoadsAsParent entry) }
 {
     let mut bytes = [0u8; ParentMap::LEN];
     let len = read(folder, files, entry, INDEX, 0, &mut bytes)?;
@@ -229,16 +221,16 @@ fn drop_and_free<F: Folder, E: FnMut(u32)>(
     requires buffer { longest_name ≤ length buffer.old }
     requires callable { E.IsAlwaysCallable each.old }
     requires is_open { ForSome (F.told folder.old).files (IsOpen files.now) }
-    ensures out { OnOk result (ForSome (F.told folder.old).files (λ from. ForEachRest (words_at owned.now.places) key.now indexed from (λ state layout keep unlinked number object. ForSome (F.told folder.new).files (IsWholeDropped state layout unlinked key.now)))) }
-    ensures gone { IfOk result (λ gone. ForSome (F.told folder.old).files (λ from. ForEachRest (words_at owned.now.places) key.now indexed from (λ state layout keep unlinked number object. AreGoneBeside layout (map (part key.now) (parts_among key.now (filter keep state.uses))) owned.now.charge gone))) }
-    ensures session { OnOk result (ForSome (F.told folder.old).files (λ from. ForEachRest (words_at owned.now.places) key.now indexed from (λ state layout keep unlinked number object. ForSome (F.told folder.new).files (SameSession from)))) }
-    ensures each { OnOk result (ForSome (F.told folder.old).files (λ from. ForEachRest (words_at owned.now.places) key.now indexed from (λ state layout keep unlinked number object. FoldsTo (λ p x q. E.step p x tt q) each.old (parts_among key.now (filter keep state.uses)) each.new))) }
-    ensures front { ForSome (F.told folder.old).files (λ from. ForEachRest (words_at owned.now.places) key.now indexed from (λ state layout keep unlinked number object. IsCalledOverPrefix E (λ p x q. E.step p x tt q) (parts_among key.now (filter keep state.uses)) each.old each.new)) }
+    ensures out { OnOk result (ForTold (F.told folder.old) (ForEachOwner owned.now key.now indexed) (AllOut (F.told folder.new) key.now)) }
+    ensures gone { IfOk result (λ gone. ForTold (F.told folder.old) (ForEachOwner owned.now key.now indexed) (LeftGoneBeside key.now owned.now.charge gone)) }
+    ensures session { OnOk result (ForTold (F.told folder.old) (ForEachOwner owned.now key.now indexed) (SessionStaysLeft (F.told folder.new))) }
+    ensures each { OnOk result (ForTold (F.told folder.old) (ForEachOwner owned.now key.now indexed) (CallsLeft (λ p x q. E.step p x tt q) key.now each.old each.new)) }
+    ensures front { ForTold (F.told folder.old) (ForEachOwner owned.now key.now indexed) (BeginsLeft E (λ p x q. E.step p x tt q) key.now each.old each.new) }
     ensures calls { (numbers : List ℕ) × FoldsTo (λ p x q. E.step p x tt q) each.old numbers each.new }
-    ensures stops { ForSome (F.told folder.old).files (λ from. ForEachRest (words_at owned.now.places) key.now indexed from (λ state layout keep unlinked number object. Passes (F.told folder.old) (F.told folder.new) (Finds (rest (doomed number state (Some object)))))) }
+    ensures stops { ForTold (F.told folder.old) (ForEachOwner owned.now key.now indexed) (DoomedLeft (F.told folder.old) (F.told folder.new)) }
     ensures is_open { ForSome (F.told folder.new).files (IsOpen files.now) }
     ensures damaged { IfDamaged result (IsFailedCheck files.now (F.told folder.new)) }
-    ensures untold { ForSome (F.told folder.old).files (λ from. ForEachRest (words_at owned.now.places) key.now indexed from (λ state layout keep unlinked number object. IfDamaged result (λ _. (F.told folder.old).files ≡ None))) }
+    ensures untold { ForTold (F.told folder.old) (ForEachOwner owned.now key.now indexed) (UndamagedLeft result (F.told folder.old)) }
     ensures writes { MayWrite F.told F.faults folder.old folder.new (IfDevice result) }
 {
     let parts = drop_indexed_with(folder, files, key, indexed, buffer, each)?;

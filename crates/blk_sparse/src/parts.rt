@@ -2,7 +2,7 @@
 ghost use Rattle.std.specs.Prelude.{◌≡◌, ◌≤◌, ◌<◌, IfOk, IfSome, IsTrue, None, OnOk, length};
 ghost use Rattle.std.specs.Int.{cast_unsigned, w64};
 ghost use Rattle.std.specs.Option.{ForSome};
-ghost use Rattle.spec_image.specs.Told.{Passes, MayWrite, ReadsOnly};
+ghost use Rattle.spec_image.specs.Told.{MayWrite, ReadsOnly};
 ghost use Rattle.blk_model.specs.Sizes.{longest_key, part_count, signatures};
 ghost use Rattle.spec_format.specs.Address.{blocks_256, kind_of};
 ghost use Rattle.spec_format.specs.Names.{longest_name};
@@ -10,7 +10,8 @@ ghost use Rattle.blk_io.specs.Faults.{IfDamaged, IfDevice};
 ghost use Rattle.blk_disk.specs.Open.{IsOpen};
 ghost use Rattle.blk_disk.specs.Tables.{stands_among};
 ghost use Rattle.blk_object.specs.FailedChecks.{IsFailedCheck};
-ghost use Rattle.blk_sparse.specs.Parts.{FindsBeforeOrAfter, ForEachListedAt, ForEachOfKey, IsPartFound, IsUsed};
+ghost use Rattle.blk_sparse.specs.Clauses.{ForEachWithName, ForTold, HasPart, ItemUsed, ItemUsing, OpaqueIfDamaged, Undamaged};
+ghost use Rattle.blk_sparse.specs.Parts.{ForEachListedAt};
 
 use blk_addr::Addr;
 use blk_chain::find;
@@ -43,13 +44,13 @@ pub(crate) fn find_part<F: Folder>(
     requires number { number < part_count }
     requires buffer { longest_name ≤ length buffer.old }
     requires is_open { ForSome (F.told folder.old).files (IsOpen files.now) }
-    ensures part { IfOk result (λ part. ForSome (F.told folder.old).files (λ from. ForEachOfKey parent.entry.key.now (cast_unsigned w64 parent.entry.signature) from (λ state layout unlinked at object node entry. IsPartFound layout object number part))) }
+    ensures part { IfOk result (λ part. ForTold (F.told folder.old) (ForEachWithName parent.entry) (HasPart number part)) }
     ensures kind { IfOk result (λ part. IfSome part (λ entry. kind_of entry ≡ blocks_256)) }
     ensures stands { IfOk result (λ part. IfSome part (λ entry. IsTrue (stands_among files.now entry))) }
     ensures buffer { length buffer.new ≡ length buffer.old }
     ensures reads { ReadsOnly F.told F.faults folder.old folder.new (IfDevice result) }
     ensures damaged { IfDamaged result (IsFailedCheck files.now (F.told folder.new)) }
-    ensures untold { ForSome (F.told folder.old).files (λ from. ForEachOfKey parent.entry.key.now (cast_unsigned w64 parent.entry.signature) from (λ state layout unlinked at object node entry. IfDamaged result (λ _. (F.told folder.old).files ≡ None))) }
+    ensures untold { ForTold (F.told folder.old) (ForEachWithName parent.entry) (Undamaged result (F.told folder.old)) }
 {
     let len = child_name(parent.key, parent.signature, number, buffer);
     match find(folder, files, &buffer[..len], true)? {
@@ -68,11 +69,11 @@ pub(crate) fn use_entry<F: Folder>(
     requires kind { kind_of entry ≡ blocks_256 }
     requires stands { IsTrue (stands_among files.now entry) }
     requires is_open { ForSome (F.told folder.old).files (IsOpen files.now) }
-    ensures used { OnOk result (ForSome (F.told folder.old).files (λ from. ForEachListedAt entry from (λ state layout unlinked item. ForSome (F.told folder.new).files (IsUsed state layout unlinked item from)))) }
-    ensures stops { ForSome (F.told folder.old).files (λ from. ForEachListedAt entry from (λ state layout unlinked item. Passes (F.told folder.old) (F.told folder.new) (FindsBeforeOrAfter state item))) }
+    ensures used { OnOk result (ForTold (F.told folder.old) (ForEachListedAt entry) (ItemUsed (F.told folder.new))) }
+    ensures stops { ForTold (F.told folder.old) (ForEachListedAt entry) (ItemUsing (F.told folder.old) (F.told folder.new)) }
     ensures is_open { ForSome (F.told folder.new).files (IsOpen files.now) }
     ensures damaged { IfDamaged result (IsFailedCheck files.now (F.told folder.new)) }
-    ensures untold { ForSome (F.told folder.old).files (λ from. ForEachListedAt entry from (λ state layout unlinked item. IfDamaged result (λ _. (F.told folder.old).files ≡ None))) }
+    ensures untold { ForTold (F.told folder.old) (ForEachListedAt entry) (λ _ _ _ _ _. OpaqueIfDamaged result (F.told folder.old)) }
     ensures writes { MayWrite F.told F.faults folder.old folder.new (IfDevice result) }
 {
     let node = node_of(folder, files, entry)?;

@@ -4,17 +4,15 @@ ghost use Rattle.std.specs.Int.{cast_unsigned, w64};
 ghost use Rattle.std.specs.Option.{ForSome};
 ghost use Rattle.spec_image.specs.Told.{ReadsOnly};
 ghost use Rattle.blk_model.specs.Sizes.{largest_offset, longest_key, part_count, part_size, signatures};
-ghost use Rattle.blk_model.specs.Sparse.{sparse_bytes};
 ghost use Rattle.spec_format.specs.Address.{blocks_256, kind_of};
 ghost use Rattle.spec_format.specs.Names.{longest_name};
 ghost use Rattle.blk_io.specs.Faults.{IfDamaged, IfDevice};
 ghost use Rattle.blk_disk.specs.Open.{IsOpen};
 ghost use Rattle.blk_disk.specs.Tables.{Agrees, stands_among};
 ghost use Rattle.blk_object.specs.FailedChecks.{IsFailedCheck};
+ghost use Rattle.blk_sparse.specs.Clauses.{ForEachOfParent, ForEachWithName, ForTold, HasPartBytes, HasSparseBytes, ReadsPart, Undamaged, UndamagedWhere};
 ghost use Rattle.blk_sparse.specs.Changing.{LoadsAsPart};
-ghost use Rattle.blk_sparse.specs.Parts.{ForEachOfKey};
-ghost use Rattle.blk_sparse.specs.Reading.{ForEachPartRead, part_bytes};
-ghost use Rattle.blk_sparse.specs.SparseObjects.{ForEachKeptParent};
+ghost use Rattle.blk_sparse.specs.Reading.{ForEachPartRead};
 
 use crate::changing::read_map;
 use crate::children::{Parent, read_key};
@@ -47,7 +45,7 @@ pub fn read_present<F: Folder>(
     requires is_open { ForSome (F.told folder.old).files (IsOpen files.now) }
 
     // These are the bytes of each object that a kept state has with this parent.
-    ensures bytes { IfOk result (λ n. ForSome (F.told folder.old).files (λ from. ForEachKeptParent parent.now.node parent.now.entry (cast_unsigned w64 parent.now.signature) from (λ state layout unlinked number object. take n out.new ≡ sparse_bytes object offset (length out.old)))) }
+    ensures bytes { IfOk result (λ n. ForTold (F.told folder.old) (ForEachOfParent parent.now) (HasSparseBytes (take n out.new) offset (length out.old))) }
     ensures within { IfOk result (λ n. n ≤ length out.old) }
     ensures long { length out.new ≡ length out.old }
 
@@ -58,7 +56,7 @@ pub fn read_present<F: Folder>(
     ensures damaged { IfDamaged result (IsFailedCheck files.now (F.told folder.new)) }
 
     // An observable folder, with such an object, reports no corruption.
-    ensures untold { ForSome (F.told folder.old).files (λ from. ForEachKeptParent parent.now.node parent.now.entry (cast_unsigned w64 parent.now.signature) from (λ state layout unlinked number object. IfDamaged result (λ _. (F.told folder.old).files ≡ None))) }
+    ensures untold { ForTold (F.told folder.old) (ForEachOfParent parent.now) (Undamaged result (F.told folder.old)) }
 {
     let len = read_key(folder, files, parent.entry, name)?;
     let (key, buffer) = name.split_at_mut(LONGEST_KEY as usize);
@@ -85,13 +83,13 @@ fn bytes_covered<F: Folder>(
     requires few { length out.old ≤ part_size }
     requires inside { offset + length out.old ≤ largest_offset }
     requires is_open { ForSome (F.told folder.old).files (IsOpen files.now) }
-    ensures bytes { IfOk result (λ n. ForSome (F.told folder.old).files (λ from. ForEachOfKey parent.entry.key.now (cast_unsigned w64 parent.entry.signature) from (λ state layout unlinked at object node entry. take n out.new ≡ sparse_bytes object offset (length out.old)))) }
+    ensures bytes { IfOk result (λ n. ForTold (F.told folder.old) (ForEachWithName parent.entry) (HasSparseBytes (take n out.new) offset (length out.old))) }
     ensures within { IfOk result (λ n. n ≤ length out.old) }
     ensures long { length out.new ≡ length out.old }
     ensures buffer { length buffer.new ≡ length buffer.old }
     ensures reads { ReadsOnly F.told F.faults folder.old folder.new (IfDevice result) }
     ensures damaged { IfDamaged result (IsFailedCheck files.now (F.told folder.new)) }
-    ensures untold { ForSome (F.told folder.old).files (λ from. ForEachOfKey parent.entry.key.now (cast_unsigned w64 parent.entry.signature) from (λ state layout unlinked at object node entry. IfDamaged result (λ _. (F.told folder.old).files ≡ None))) }
+    ensures untold { ForTold (F.told folder.old) (ForEachWithName parent.entry) (Undamaged result (F.told folder.old)) }
 {
     if out.is_empty() {
         return Ok(0);
@@ -124,13 +122,13 @@ fn bytes_of_part<F: Folder>(
     requires buffer { longest_name ≤ length buffer.old }
     requires inside { place + length out.old ≤ part_size }
     requires is_open { ForSome (F.told folder.old).files (IsOpen files.now) }
-    ensures bytes { IfOk result (λ n. ForSome (F.told folder.old).files (λ from. ForEachOfKey parent.entry.key.now (cast_unsigned w64 parent.entry.signature) from (λ state layout unlinked at object node entry. take n out.new ≡ part_bytes object number place (length out.old)))) }
+    ensures bytes { IfOk result (λ n. ForTold (F.told folder.old) (ForEachWithName parent.entry) (HasPartBytes (take n out.new) number place (length out.old))) }
     ensures within { IfOk result (λ n. n ≤ length out.old) }
     ensures long { length out.new ≡ length out.old }
     ensures buffer { length buffer.new ≡ length buffer.old }
     ensures reads { ReadsOnly F.told F.faults folder.old folder.new (IfDevice result) }
     ensures damaged { IfDamaged result (IsFailedCheck files.now (F.told folder.new)) }
-    ensures untold { ForSome (F.told folder.old).files (λ from. ForEachOfKey parent.entry.key.now (cast_unsigned w64 parent.entry.signature) from (λ state layout unlinked at object node entry. IfDamaged result (λ _. (F.told folder.old).files ≡ None))) }
+    ensures untold { ForTold (F.told folder.old) (ForEachWithName parent.entry) (Undamaged result (F.told folder.old)) }
 {
     match find_part(folder, files, parent, number, buffer)? {
         Some(part) => bytes_there(folder, files, part, place, out),
@@ -149,12 +147,12 @@ fn bytes_there<F: Folder>(
     requires kind { kind_of part ≡ blocks_256 }
     requires stands { IsTrue (stands_among files.now part) }
     requires inside { place + length out.old ≤ part_size }
-    ensures bytes { IfOk result (λ n. ForSome (F.told folder.old).files (λ from. ForEachPartRead part from (λ object number. take n out.new ≡ part_bytes object number place (length out.old)))) }
+    ensures bytes { IfOk result (λ n. ForTold (F.told folder.old) (ForEachPartRead part) (ReadsPart (take n out.new) place (length out.old))) }
     ensures within { IfOk result (λ n. n ≤ length out.old) }
     ensures long { length out.new ≡ length out.old }
     ensures reads { ReadsOnly F.told F.faults folder.old folder.new (IfDevice result) }
     ensures damaged { IfDamaged result (IsFailedCheck files.now (F.told folder.new)) }
-    ensures untold { ForSome (F.told folder.old).files (Agrees files.now) → ForSome (F.told folder.old).files (LoadsAsPart part) → IfDamaged result (λ _. (F.told folder.old).files ≡ None) }
+    ensures untold { ForSome (F.told folder.old).files (Agrees files.now) → UndamagedWhere result (F.told folder.old) (LoadsAsPart part) }
 {
     let map = read_map(folder, files, part)?;
     let (start, len) = map.present_run(place, place + out.len() as u32);

@@ -1,19 +1,16 @@
 // Sparse data is read, and the parts in range are accessed.
-ghost use Rattle.std.specs.Prelude.{◌≡◌, ◌≤◌, ◌<◌, ◌+◌, [], ◌∷◌, IfOk, IsTrue, None, OnOk, length, take};
+ghost use Rattle.std.specs.Prelude.{◌≡◌, ◌≤◌, ◌<◌, ◌+◌, IfOk, IsTrue, None, OnOk, length, take};
 ghost use Rattle.std.specs.Int.{cast_unsigned, w64};
 ghost use Rattle.std.specs.Option.{ForSome};
-ghost use Rattle.spec_image.specs.Told.{Passes, MayWrite};
-ghost use Rattle.blk_model.specs.Effects.{existing_parts};
+ghost use Rattle.spec_image.specs.Told.{MayWrite};
 ghost use Rattle.blk_model.specs.Sizes.{largest_offset, longest_key, part_count, part_size, signatures};
-ghost use Rattle.blk_model.specs.Sparse.{present_run, sparse_bytes};
 ghost use Rattle.spec_format.specs.Address.{blocks_256, kind_of};
 ghost use Rattle.spec_format.specs.Names.{longest_name};
 ghost use Rattle.blk_io.specs.Faults.{IfDamaged, IfDevice};
 ghost use Rattle.blk_disk.specs.Open.{IsOpen};
 ghost use Rattle.blk_disk.specs.Tables.{stands_among};
 ghost use Rattle.blk_object.specs.FailedChecks.{IsFailedCheck};
-ghost use Rattle.blk_sparse.specs.Parts.{ForEachOfKey};
-ghost use Rattle.blk_sparse.specs.SparseObjects.{FindsUsed, ForEachKeptParent, KeepsParentUsed, parts_of, parts_used};
+ghost use Rattle.blk_sparse.specs.Clauses.{ForEachAt, ForEachOfParent, ForEachWithName, ForTold, HasRun, HasSparseBytes, Undamaged, Used, UsedAt, Using, part_if_any, parts_within};
 
 use crate::children::{Parent, read_key};
 use crate::parts::{ParentName, find_part, use_entry};
@@ -47,10 +44,10 @@ pub fn use_parts<F: Folder>(
     requires is_open { ForSome (F.told folder.old).files (IsOpen files.now) }
 
     // Each state that was kept, with such an object, is kept with these parts in front in the end, by the same layout.
-    ensures used { OnOk result (ForSome (F.told folder.old).files (λ from. ForEachKeptParent parent.now.node parent.now.entry (cast_unsigned w64 parent.now.signature) from (λ state layout unlinked number object. ForSome (F.told folder.new).files (KeepsParentUsed state layout unlinked number object parent.now.node parent.now.entry (cast_unsigned w64 parent.now.signature) (parts_used object offset count) from)))) }
+    ensures used { OnOk result (ForTold (F.told folder.old) (ForEachOfParent parent.now) (Used (F.told folder.new) parent.now (parts_within offset count))) }
 
     // At each word the durable contents with a prefix of these accesses made are recovered.
-    ensures stops { ForSome (F.told folder.old).files (λ from. ForEachKeptParent parent.now.node parent.now.entry (cast_unsigned w64 parent.now.signature) from (λ state layout unlinked number object. Passes (F.told folder.old) (F.told folder.new) (FindsUsed state (parts_used object offset count)))) }
+    ensures stops { ForTold (F.told folder.old) (ForEachOfParent parent.now) (Using (F.told folder.old) (F.told folder.new) (parts_within offset count)) }
 
     ensures is_open { ForSome (F.told folder.new).files (IsOpen files.now) }
 
@@ -58,7 +55,7 @@ pub fn use_parts<F: Folder>(
     ensures damaged { IfDamaged result (IsFailedCheck files.now (F.told folder.new)) }
 
     // An observable folder, with such an object, reports no corruption.
-    ensures untold { ForSome (F.told folder.old).files (λ from. ForEachKeptParent parent.now.node parent.now.entry (cast_unsigned w64 parent.now.signature) from (λ state layout unlinked number object. IfDamaged result (λ _. (F.told folder.old).files ≡ None))) }
+    ensures untold { ForTold (F.told folder.old) (ForEachOfParent parent.now) (Undamaged result (F.told folder.old)) }
 
     ensures writes { MayWrite F.told F.faults folder.old folder.new (IfDevice result) }
 {
@@ -88,11 +85,11 @@ fn use_covered<F: Folder>(
     requires few { count ≤ part_size }
     requires inside { offset + count ≤ largest_offset }
     requires is_open { ForSome (F.told folder.old).files (IsOpen files.now) }
-    ensures used { OnOk result (ForSome (F.told folder.old).files (λ from. ForEachOfKey parent.entry.key.now (cast_unsigned w64 parent.entry.signature) from (λ state layout unlinked at object node entry. ForSome (F.told folder.new).files (KeepsParentUsed state layout unlinked at object node entry (cast_unsigned w64 parent.entry.signature) (parts_used object offset count) from)))) }
-    ensures stops { ForSome (F.told folder.old).files (λ from. ForEachOfKey parent.entry.key.now (cast_unsigned w64 parent.entry.signature) from (λ state layout unlinked at object node entry. Passes (F.told folder.old) (F.told folder.new) (FindsUsed state (parts_used object offset count)))) }
+    ensures used { OnOk result (ForTold (F.told folder.old) (ForEachAt parent.entry) (UsedAt (F.told folder.new) parent.entry (parts_within offset count))) }
+    ensures stops { ForTold (F.told folder.old) (ForEachWithName parent.entry) (Using (F.told folder.old) (F.told folder.new) (parts_within offset count)) }
     ensures is_open { ForSome (F.told folder.new).files (IsOpen files.now) }
     ensures damaged { IfDamaged result (IsFailedCheck files.now (F.told folder.new)) }
-    ensures untold { ForSome (F.told folder.old).files (λ from. ForEachOfKey parent.entry.key.now (cast_unsigned w64 parent.entry.signature) from (λ state layout unlinked at object node entry. IfDamaged result (λ _. (F.told folder.old).files ≡ None))) }
+    ensures untold { ForTold (F.told folder.old) (ForEachWithName parent.entry) (Undamaged result (F.told folder.old)) }
     ensures writes { MayWrite F.told F.faults folder.old folder.new (IfDevice result) }
 {
     if count == 0 {
@@ -122,12 +119,12 @@ fn use_part<F: Folder>(
     requires number { number < part_count }
     requires buffer { longest_name ≤ length buffer.old }
     requires is_open { ForSome (F.told folder.old).files (IsOpen files.now) }
-    ensures used { OnOk result (ForSome (F.told folder.old).files (λ from. ForEachOfKey parent.entry.key.now (cast_unsigned w64 parent.entry.signature) from (λ state layout unlinked at object node entry. ForSome (F.told folder.new).files (KeepsParentUsed state layout unlinked at object node entry (cast_unsigned w64 parent.entry.signature) (parts_of object (existing_parts object (number ∷ []))) from)))) }
-    ensures stops { ForSome (F.told folder.old).files (λ from. ForEachOfKey parent.entry.key.now (cast_unsigned w64 parent.entry.signature) from (λ state layout unlinked at object node entry. Passes (F.told folder.old) (F.told folder.new) (FindsUsed state (parts_of object (existing_parts object (number ∷ [])))))) }
+    ensures used { OnOk result (ForTold (F.told folder.old) (ForEachAt parent.entry) (UsedAt (F.told folder.new) parent.entry (part_if_any number))) }
+    ensures stops { ForTold (F.told folder.old) (ForEachWithName parent.entry) (Using (F.told folder.old) (F.told folder.new) (part_if_any number)) }
     ensures buffer { length buffer.new ≡ length buffer.old }
     ensures is_open { ForSome (F.told folder.new).files (IsOpen files.now) }
     ensures damaged { IfDamaged result (IsFailedCheck files.now (F.told folder.new)) }
-    ensures untold { ForSome (F.told folder.old).files (λ from. ForEachOfKey parent.entry.key.now (cast_unsigned w64 parent.entry.signature) from (λ state layout unlinked at object node entry. IfDamaged result (λ _. (F.told folder.old).files ≡ None))) }
+    ensures untold { ForTold (F.told folder.old) (ForEachWithName parent.entry) (Undamaged result (F.told folder.old)) }
     ensures writes { MayWrite F.told F.faults folder.old folder.new (IfDevice result) }
 {
     match find_part(folder, files, parent, number, buffer)? {
@@ -160,15 +157,15 @@ pub fn read<F: Folder>(
     requires is_open { ForSome (F.told f.old).files (IsOpen files.now) }
 
     // These are the bytes of each object that a kept state has with this parent.
-    ensures bytes { IfOk result (λ n. ForSome (F.told f.old).files (λ from. ForEachKeptParent parent.now.node parent.now.entry (cast_unsigned w64 parent.now.signature) from (λ state layout unlinked number object. take n out.new ≡ sparse_bytes object offset (length out.old)))) }
+    ensures bytes { IfOk result (λ n. ForTold (F.told f.old) (ForEachOfParent parent.now) (HasSparseBytes (take n out.new) offset (length out.old))) }
     ensures within { IfOk result (λ n. n ≤ length out.old) }
     ensures long { length out.new ≡ length out.old }
 
     // Each state that was kept, with such an object, is kept with these parts in front in the end, by the same layout.
-    ensures used { OnOk result (ForSome (F.told f.old).files (λ from. ForEachKeptParent parent.now.node parent.now.entry (cast_unsigned w64 parent.now.signature) from (λ state layout unlinked number object. ForSome (F.told f.new).files (KeepsParentUsed state layout unlinked number object parent.now.node parent.now.entry (cast_unsigned w64 parent.now.signature) (parts_used object offset (length out.old)) from)))) }
+    ensures used { OnOk result (ForTold (F.told f.old) (ForEachOfParent parent.now) (Used (F.told f.new) parent.now (parts_within offset (length out.old)))) }
 
     // At each word the durable contents with a prefix of these accesses made are recovered.
-    ensures stops { ForSome (F.told f.old).files (λ from. ForEachKeptParent parent.now.node parent.now.entry (cast_unsigned w64 parent.now.signature) from (λ state layout unlinked number object. Passes (F.told f.old) (F.told f.new) (FindsUsed state (parts_used object offset (length out.old))))) }
+    ensures stops { ForTold (F.told f.old) (ForEachOfParent parent.now) (Using (F.told f.old) (F.told f.new) (parts_within offset (length out.old))) }
 
     ensures is_open { ForSome (F.told f.new).files (IsOpen files.now) }
 
@@ -176,7 +173,7 @@ pub fn read<F: Folder>(
     ensures damaged { IfDamaged result (IsFailedCheck files.now (F.told f.new)) }
 
     // An observable folder, with such an object, reports no corruption.
-    ensures untold { ForSome (F.told f.old).files (λ from. ForEachKeptParent parent.now.node parent.now.entry (cast_unsigned w64 parent.now.signature) from (λ state layout unlinked number object. IfDamaged result (λ _. (F.told f.old).files ≡ None))) }
+    ensures untold { ForTold (F.told f.old) (ForEachOfParent parent.now) (Undamaged result (F.told f.old)) }
 
     ensures writes { MayWrite F.told F.faults f.old f.new (IfDevice result) }
 {
@@ -208,13 +205,13 @@ pub fn range<F: Folder>(
     requires is_open { ForSome (F.told f.old).files (IsOpen files.now) }
 
     // This is the run of each object that a kept state has with this parent.
-    ensures run { IfOk result (λ run. ForSome (F.told f.old).files (λ from. ForEachKeptParent parent.now.node parent.now.entry (cast_unsigned w64 parent.now.signature) from (λ state layout unlinked number object. (run.0, run.1) ≡ present_run object offset count))) }
+    ensures run { IfOk result (λ run. ForTold (F.told f.old) (ForEachOfParent parent.now) (HasRun (run.0, run.1) offset count)) }
 
     // Each state that was kept, with such an object, is kept with these parts in front in the end, by the same layout.
-    ensures used { OnOk result (ForSome (F.told f.old).files (λ from. ForEachKeptParent parent.now.node parent.now.entry (cast_unsigned w64 parent.now.signature) from (λ state layout unlinked number object. ForSome (F.told f.new).files (KeepsParentUsed state layout unlinked number object parent.now.node parent.now.entry (cast_unsigned w64 parent.now.signature) (parts_used object offset count) from)))) }
+    ensures used { OnOk result (ForTold (F.told f.old) (ForEachOfParent parent.now) (Used (F.told f.new) parent.now (parts_within offset count))) }
 
     // At each word the durable contents with a prefix of these accesses made are recovered.
-    ensures stops { ForSome (F.told f.old).files (λ from. ForEachKeptParent parent.now.node parent.now.entry (cast_unsigned w64 parent.now.signature) from (λ state layout unlinked number object. Passes (F.told f.old) (F.told f.new) (FindsUsed state (parts_used object offset count)))) }
+    ensures stops { ForTold (F.told f.old) (ForEachOfParent parent.now) (Using (F.told f.old) (F.told f.new) (parts_within offset count)) }
 
     ensures is_open { ForSome (F.told f.new).files (IsOpen files.now) }
 
@@ -222,7 +219,7 @@ pub fn range<F: Folder>(
     ensures damaged { IfDamaged result (IsFailedCheck files.now (F.told f.new)) }
 
     // An observable folder, with such an object, reports no corruption.
-    ensures untold { ForSome (F.told f.old).files (λ from. ForEachKeptParent parent.now.node parent.now.entry (cast_unsigned w64 parent.now.signature) from (λ state layout unlinked number object. IfDamaged result (λ _. (F.told f.old).files ≡ None))) }
+    ensures untold { ForTold (F.told f.old) (ForEachOfParent parent.now) (Undamaged result (F.told f.old)) }
 
     ensures writes { MayWrite F.told F.faults f.old f.new (IfDevice result) }
 {

@@ -11,9 +11,8 @@ ghost use Rattle.blk_io.specs.Faults.{IfDamaged, IfDevice};
 ghost use Rattle.blk_disk.specs.Open.{IsOpen};
 ghost use Rattle.blk_disk.specs.Tables.{stands_among};
 ghost use Rattle.blk_object.specs.FailedChecks.{IsFailedCheck};
-ghost use Rattle.blk_sparse.specs.Parts.{ForEachOfKey};
-ghost use Rattle.blk_sparse.specs.Reading.{joined_runs, part_run};
-ghost use Rattle.blk_sparse.specs.SparseObjects.{ForEachKeptParent};
+ghost use Rattle.blk_sparse.specs.Clauses.{ForEachOfParent, ForEachWithName, ForTold, HasPartRun, HasRun, Undamaged};
+ghost use Rattle.blk_sparse.specs.Reading.{joined_runs};
 
 use crate::changing::read_map;
 use crate::children::{Parent, read_key};
@@ -51,7 +50,7 @@ pub fn find_run<F: Folder>(
     requires is_open { ForSome (F.told folder.old).files (IsOpen files.now) }
 
     // This is the run of each object that a kept state has with this parent.
-    ensures run { IfOk result (λ run. ForSome (F.told folder.old).files (λ from. ForEachKeptParent parent.now.node parent.now.entry (cast_unsigned w64 parent.now.signature) from (λ state layout unlinked number object. (run.start, run.length) ≡ present_run object offset count))) }
+    ensures run { IfOk result (λ run. ForTold (F.told folder.old) (ForEachOfParent parent.now) (HasRun (run.start, run.length) offset count)) }
 
     ensures reads { ReadsOnly F.told F.faults folder.old folder.new (IfDevice result) }
     ensures name { length name.new ≡ length name.old }
@@ -60,7 +59,7 @@ pub fn find_run<F: Folder>(
     ensures damaged { IfDamaged result (IsFailedCheck files.now (F.told folder.new)) }
 
     // An observable folder, with such an object, reports no corruption.
-    ensures untold { ForSome (F.told folder.old).files (λ from. ForEachKeptParent parent.now.node parent.now.entry (cast_unsigned w64 parent.now.signature) from (λ state layout unlinked number object. IfDamaged result (λ _. (F.told folder.old).files ≡ None))) }
+    ensures untold { ForTold (F.told folder.old) (ForEachOfParent parent.now) (Undamaged result (F.told folder.old)) }
 {
     let len = read_key(folder, files, parent.entry, name)?;
     let (key, buffer) = name.split_at_mut(LONGEST_KEY as usize);
@@ -87,11 +86,11 @@ fn run_covered<F: Folder>(
     requires few { count ≤ part_size }
     requires inside { offset + count ≤ largest_offset }
     requires is_open { ForSome (F.told folder.old).files (IsOpen files.now) }
-    ensures run { IfOk result (λ run. ForSome (F.told folder.old).files (λ from. ForEachOfKey parent.entry.key.now (cast_unsigned w64 parent.entry.signature) from (λ state layout unlinked number object node entry. (run.start, run.length) ≡ present_run object offset count))) }
+    ensures run { IfOk result (λ run. ForTold (F.told folder.old) (ForEachWithName parent.entry) (HasRun (run.start, run.length) offset count)) }
     ensures buffer { length buffer.new ≡ length buffer.old }
     ensures reads { ReadsOnly F.told F.faults folder.old folder.new (IfDevice result) }
     ensures damaged { IfDamaged result (IsFailedCheck files.now (F.told folder.new)) }
-    ensures untold { ForSome (F.told folder.old).files (λ from. ForEachOfKey parent.entry.key.now (cast_unsigned w64 parent.entry.signature) from (λ state layout unlinked number object node entry. IfDamaged result (λ _. (F.told folder.old).files ≡ None))) }
+    ensures untold { ForTold (F.told folder.old) (ForEachWithName parent.entry) (Undamaged result (F.told folder.old)) }
 {
     if count == 0 {
         return Ok(Run {
@@ -162,13 +161,13 @@ fn run_of_part<F: Folder>(
     requires buffer { longest_name ≤ length buffer.old }
     requires inside { place + count ≤ part_size }
     requires is_open { ForSome (F.told folder.old).files (IsOpen files.now) }
-    ensures run { IfOk result (λ run. ForSome (F.told folder.old).files (λ from. ForEachOfKey parent.entry.key.now (cast_unsigned w64 parent.entry.signature) from (λ state layout unlinked at object node entry. (run.start, run.length) ≡ part_run object number place count))) }
+    ensures run { IfOk result (λ run. ForTold (F.told folder.old) (ForEachWithName parent.entry) (HasPartRun (run.start, run.length) number place count)) }
     ensures from { IfOk result (λ run. place ≤ run.start) }
     ensures within { IfOk result (λ run. run.start + run.length ≤ place + count) }
     ensures buffer { length buffer.new ≡ length buffer.old }
     ensures reads { ReadsOnly F.told F.faults folder.old folder.new (IfDevice result) }
     ensures damaged { IfDamaged result (IsFailedCheck files.now (F.told folder.new)) }
-    ensures untold { ForSome (F.told folder.old).files (λ from. ForEachOfKey parent.entry.key.now (cast_unsigned w64 parent.entry.signature) from (λ state layout unlinked at object node entry. IfDamaged result (λ _. (F.told folder.old).files ≡ None))) }
+    ensures untold { ForTold (F.told folder.old) (ForEachWithName parent.entry) (Undamaged result (F.told folder.old)) }
 {
     match find_part(folder, files, parent, number, buffer)? {
         Some(part) => {

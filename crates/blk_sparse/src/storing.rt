@@ -3,21 +3,17 @@ ghost use Rattle.std.specs.Prelude.{◌≡◌, ◌≤◌, ◌<◌, ◌+◌, [], 
 ghost use Rattle.std.specs.Int.{cast_unsigned, w64};
 ghost use Rattle.std.specs.Option.{ForSome};
 ghost use Rattle.spec_image.specs.Told.{Passes, MayWrite};
-ghost use Rattle.blk_model.specs.Holding.{rest};
 ghost use Rattle.blk_model.specs.Sizes.{largest_offset, longest_key, part_size, signatures};
-ghost use Rattle.blk_model.specs.Sparse.{covered_parts};
-ghost use Rattle.blk_model.specs.State.{State};
 ghost use Rattle.spec_format.specs.Address.{blocks_256, kind_of};
 ghost use Rattle.spec_format.specs.Names.{longest_name};
-ghost use Rattle.spec_folder.specs.Layout.{Layout};
 ghost use Rattle.blk_io.specs.Faults.{IfDamaged, IfDevice};
 ghost use Rattle.blk_disk.specs.Open.{IsOpen};
 ghost use Rattle.blk_disk.specs.Tables.{stands_among};
 ghost use Rattle.blk_alloc.specs.Extending.{KeepsStanding};
-ghost use Rattle.law_state.specs.Changes.{Finds, KeepsWith};
+ghost use Rattle.law_state.specs.Changes.{KeepsWith};
 ghost use Rattle.blk_object.specs.FailedChecks.{IsFailedCheck};
-ghost use Rattle.blk_sparse.specs.SparseObjects.{ForEachGrowing, KeepsParentThen, with_bytes, with_bytes_written, with_signature};
-ghost use Rattle.blk_sparse.specs.SparseWrites.{AreItemsCounted, CountsAfter, ForEachTarget, ForEachToStore, IsCountedThen, IsKeptWithBytes, signature_to, with_parent_used};
+ghost use Rattle.blk_sparse.specs.Clauses.{BeginsTarget, CountsBytes, Durable, DurableStore, ForEachCovered, ForStore, ForTold, ForWriteOf, StoresBytes, Undamaged, UndamagedStore};
+ghost use Rattle.blk_sparse.specs.SparseWrites.{AreItemsCounted, ForEachTarget, signature_to};
 
 use crate::beginning::begin;
 use crate::children::Parent;
@@ -68,10 +64,10 @@ pub fn store_sparse<F: Folder>(
     requires is_open { ForSome (F.told folder.old).files (IsOpen files.old) }
 
     // Each state that was kept, with such an object, is kept with the bytes, and with its items in front.
-    ensures stored { OnOk result (ForSome (F.told folder.old).files (λ from. ForEachToStore target.now offset bytes.now entries charge from (λ state layout number object. ForSome (F.told folder.new).files (IsKeptWithBytes state layout number object target.now offset bytes.now from)))) }
+    ensures stored { OnOk result (ForStore (F.told folder.old) target.now offset bytes.now entries charge (StoresBytes (F.told folder.new))) }
 
     // At each word the old durable contents are recovered: a dirty object isn't durable.
-    ensures stops { ForSome (F.told folder.old).files (λ from. ForEachToStore target.now offset bytes.now entries charge from (λ state layout number object. Passes (F.told folder.old) (F.told folder.new) (Finds (rest state)))) }
+    ensures stops { ForStore (F.told folder.old) target.now offset bytes.now entries charge (DurableStore (F.told folder.new)) }
 
     // What was valid still is.
     ensures keeps { KeepsStanding files.old files.new }
@@ -81,7 +77,7 @@ pub fn store_sparse<F: Folder>(
     ensures damaged { IfDamaged result (IsFailedCheck files.new (F.told folder.new)) }
 
     // An observable folder, with such an object, reports no corruption.
-    ensures untold { ForSome (F.told folder.old).files (λ from. ForEachToStore target.now offset bytes.now entries charge from (λ state layout number object. IfDamaged result (λ _. (F.told folder.old).files ≡ None))) }
+    ensures untold { ForStore (F.told folder.old) target.now offset bytes.now entries charge (UndamagedStore result) }
 
     ensures writes { MayWrite F.told F.faults folder.old folder.new (IfDevice result) }
 {
@@ -102,12 +98,12 @@ fn use_and_begin<F: Folder>(
     requires stands { IsTrue (stands_among files.old target.now.parent.entry) }
     requires signature { signature_to target.now < signatures }
     requires is_open { ForSome (F.told folder.old).files (IsOpen files.old) }
-    ensures begun { OnOk result (ForSome (F.told folder.old).files (λ from. ForEachTarget [] target.now from (λ state layout unlinked number object. ForSome (F.told folder.new).files (KeepsParentThen (with_parent_used state number object (signature_to target.now)) layout unlinked number (with_signature object (signature_to target.now)) target.now.parent.node target.now.parent.entry (signature_to target.now) from)))) }
-    ensures stops { ForSome (F.told folder.old).files (λ from. ForEachTarget [] target.now from (λ state layout unlinked number object. Passes (F.told folder.old) (F.told folder.new) (Finds (rest state)))) }
+    ensures begun { OnOk result (ForTold (F.told folder.old) (ForEachTarget [] target.now) (BeginsTarget (F.told folder.new) target.now)) }
+    ensures stops { ForTold (F.told folder.old) (ForEachTarget [] target.now) (Durable (F.told folder.old) (F.told folder.new)) }
     ensures keeps { KeepsStanding files.old files.new }
     ensures is_open { OnOk result (ForSome (F.told folder.new).files (IsOpen files.new)) }
     ensures damaged { IfDamaged result (IsFailedCheck files.new (F.told folder.new)) }
-    ensures untold { ForSome (F.told folder.old).files (λ from. ForEachTarget [] target.now from (λ state layout unlinked number object. IfDamaged result (λ _. (F.told folder.old).files ≡ None))) }
+    ensures untold { ForTold (F.told folder.old) (ForEachTarget [] target.now) (Undamaged result (F.told folder.old)) }
     ensures writes { MayWrite F.told F.faults folder.old folder.new (IfDevice result) }
 {
     use_entry(folder, files, target.parent.entry, moment)?;
@@ -134,12 +130,12 @@ fn write_and_count<F: Folder>(
     requires few { length data.bytes.now ≤ part_size }
     requires inside { data.offset + length data.bytes.now ≤ largest_offset }
     requires is_open { ForSome (F.told folder.old).files (IsOpen files.old) }
-    ensures counted { OnOk result (ForSome (F.told folder.old).files (λ from. ForEachGrowing (covered_parts data.entry.offset (length data.entry.bytes.now)) parent.now.node parent.now.entry (cast_unsigned w64 parent.now.signature) from (λ state layout unlinked number object. (counted : State) (laid : Layout) → CountsAfter counted laid (with_bytes_written state number object data.entry.offset data.entry.bytes.now) more.entries more.charge from → ForSome (F.told folder.new).files (IsCountedThen (with_bytes_written state number object data.entry.offset data.entry.bytes.now) layout unlinked number (with_bytes object data.entry.offset data.entry.bytes.now) parent.now.node parent.now.entry (cast_unsigned w64 parent.now.signature) from)))) }
-    ensures stops { ForSome (F.told folder.old).files (λ from. ForEachGrowing (covered_parts data.entry.offset (length data.entry.bytes.now)) parent.now.node parent.now.entry (cast_unsigned w64 parent.now.signature) from (λ state layout unlinked number object. Passes (F.told folder.old) (F.told folder.new) (Finds (rest state)))) }
+    ensures counted { OnOk result (ForWriteOf (F.told folder.old) parent.now data.entry (CountsBytes more.entries more.charge (F.told folder.new))) }
+    ensures stops { ForTold (F.told folder.old) (ForEachCovered parent.now data.entry) (Durable (F.told folder.old) (F.told folder.new)) }
     ensures keeps { KeepsStanding files.old files.new }
     ensures is_open { OnOk result (ForSome (F.told folder.new).files (IsOpen files.new)) }
     ensures damaged { IfDamaged result (IsFailedCheck files.new (F.told folder.new)) }
-    ensures untold { ForSome (F.told folder.old).files (λ from. ForEachGrowing (covered_parts data.entry.offset (length data.entry.bytes.now)) parent.now.node parent.now.entry (cast_unsigned w64 parent.now.signature) from (λ state layout unlinked number object. IfDamaged result (λ _. (F.told folder.old).files ≡ None))) }
+    ensures untold { ForTold (F.told folder.old) (ForEachCovered parent.now data.entry) (Undamaged result (F.told folder.old)) }
     ensures writes { MayWrite F.told F.faults folder.old folder.new (IfDevice result) }
 {
     write(folder, files, parent, name, data, moment)?;

@@ -1,18 +1,16 @@
 // An object is accessed: its main item, and the parts in range.
-ghost use Rattle.std.specs.Prelude.{◌≡◌, ◌≤◌, ◌<◌, ◌+◌, ◌∷◌, IfOk, IsTrue, None, OnOk, length};
+ghost use Rattle.std.specs.Prelude.{◌≡◌, ◌≤◌, ◌<◌, ◌+◌, IfOk, IsTrue, OnOk, length};
 ghost use Rattle.std.specs.Int.{cast_unsigned, w64};
 ghost use Rattle.std.specs.Option.{ForSome};
-ghost use Rattle.spec_image.specs.Told.{Passes, MayWrite};
-ghost use Rattle.blk_model.specs.Items.{main};
+ghost use Rattle.spec_image.specs.Told.{MayWrite};
 ghost use Rattle.blk_model.specs.Sizes.{largest_offset, longest_key, part_size, signatures};
-ghost use Rattle.blk_model.specs.Sparse.{present_run};
 ghost use Rattle.spec_format.specs.Address.{blocks_256, kind_of};
 ghost use Rattle.spec_format.specs.Names.{longest_name};
 ghost use Rattle.blk_io.specs.Faults.{IfDamaged, IfDevice};
 ghost use Rattle.blk_disk.specs.Open.{IsOpen};
 ghost use Rattle.blk_disk.specs.Tables.{stands_among};
 ghost use Rattle.blk_object.specs.FailedChecks.{IsFailedCheck};
-ghost use Rattle.blk_sparse.specs.SparseObjects.{FindsUsed, ForEachKeptParent, KeepsParentUsed, parts_used};
+ghost use Rattle.blk_sparse.specs.Clauses.{ForEachOfParent, ForTold, HasRun, Undamaged, Used, Using, all_in};
 
 use crate::children::Parent;
 use crate::parts::use_entry;
@@ -42,13 +40,13 @@ pub fn use_range<F: Folder>(
     requires is_open { ForSome (F.told folder.old).files (IsOpen files.now) }
 
     // This is the run of each object that a kept state has with this parent.
-    ensures run { IfOk result (λ run. ForSome (F.told folder.old).files (λ from. ForEachKeptParent parent.now.node parent.now.entry (cast_unsigned w64 parent.now.signature) from (λ state layout unlinked number object. (run.0, run.1) ≡ present_run object offset count))) }
+    ensures run { IfOk result (λ run. ForTold (F.told folder.old) (ForEachOfParent parent.now) (HasRun (run.0, run.1) offset count)) }
 
     // Each state that was kept, with such an object, is kept with these items in front in the end, by the same layout.
-    ensures used { OnOk result (ForSome (F.told folder.old).files (λ from. ForEachKeptParent parent.now.node parent.now.entry (cast_unsigned w64 parent.now.signature) from (λ state layout unlinked number object. ForSome (F.told folder.new).files (KeepsParentUsed state layout unlinked number object parent.now.node parent.now.entry (cast_unsigned w64 parent.now.signature) (main object.key ∷ parts_used object offset count) from)))) }
+    ensures used { OnOk result (ForTold (F.told folder.old) (ForEachOfParent parent.now) (Used (F.told folder.new) parent.now (all_in offset count))) }
 
     // At each word the durable contents with the first of them in front are recovered.
-    ensures stops { ForSome (F.told folder.old).files (λ from. ForEachKeptParent parent.now.node parent.now.entry (cast_unsigned w64 parent.now.signature) from (λ state layout unlinked number object. Passes (F.told folder.old) (F.told folder.new) (FindsUsed state (main object.key ∷ parts_used object offset count)))) }
+    ensures stops { ForTold (F.told folder.old) (ForEachOfParent parent.now) (Using (F.told folder.old) (F.told folder.new) (all_in offset count)) }
 
     ensures is_open { ForSome (F.told folder.new).files (IsOpen files.now) }
 
@@ -56,7 +54,7 @@ pub fn use_range<F: Folder>(
     ensures damaged { IfDamaged result (IsFailedCheck files.now (F.told folder.new)) }
 
     // An observable folder, with such an object, reports no corruption.
-    ensures untold { ForSome (F.told folder.old).files (λ from. ForEachKeptParent parent.now.node parent.now.entry (cast_unsigned w64 parent.now.signature) from (λ state layout unlinked number object. IfDamaged result (λ _. (F.told folder.old).files ≡ None))) }
+    ensures untold { ForTold (F.told folder.old) (ForEachOfParent parent.now) (Undamaged result (F.told folder.old)) }
 
     ensures writes { MayWrite F.told F.faults folder.old folder.new (IfDevice result) }
 {

@@ -1,21 +1,17 @@
 // Bytes are written to an object with parts.
-ghost use Rattle.std.specs.Prelude.{◌≡◌, ◌≤◌, ◌<◌, ◌+◌, [], ◌∷◌, IsTrue, None, OnOk, length};
+ghost use Rattle.std.specs.Prelude.{◌≡◌, ◌≤◌, ◌<◌, ◌+◌, IsTrue, OnOk, length};
 ghost use Rattle.std.specs.Int.{cast_unsigned, w64};
 ghost use Rattle.std.specs.Option.{ForSome};
-ghost use Rattle.spec_image.specs.Told.{Passes, MayWrite};
-ghost use Rattle.blk_model.specs.Holding.{rest};
+ghost use Rattle.spec_image.specs.Told.{MayWrite};
 ghost use Rattle.blk_model.specs.Sizes.{largest_offset, longest_key, part_count, part_size, signatures};
-ghost use Rattle.blk_model.specs.Sparse.{covered_parts};
 ghost use Rattle.spec_format.specs.Address.{blocks_256, kind_of};
 ghost use Rattle.spec_format.specs.Names.{longest_name};
 ghost use Rattle.blk_io.specs.Faults.{IfDamaged, IfDevice};
 ghost use Rattle.blk_disk.specs.Open.{IsOpen};
 ghost use Rattle.blk_disk.specs.Tables.{stands_among};
 ghost use Rattle.blk_alloc.specs.Extending.{KeepsStanding};
-ghost use Rattle.law_state.specs.Changes.{Finds};
 ghost use Rattle.blk_object.specs.FailedChecks.{IsFailedCheck};
-ghost use Rattle.blk_sparse.specs.SparseObjects.{ForEachGrowing, KeepsParentThen, with_bytes, with_bytes_written, with_piece, with_piece_written};
-ghost use Rattle.blk_sparse.specs.Writing.{AreInOrder, ForEachGrowingOfKey, IsPieceInOrder};
+ghost use Rattle.blk_sparse.specs.Clauses.{Durable, DurableAtNode, ForBytesOfKey, ForEachCovered, ForEachCoveredOfKey, ForEachPieceOfKey, ForPieceOfKey, ForTold, ForWriteOf, OrdersBytes, OrdersBytesAtNode, OrdersPiece, Undamaged, UndamagedAtNode, WritesBytes, WritesBytesAtNode, WritesPiece};
 
 use crate::changing::change_part;
 use crate::children::{Parent, read_key};
@@ -67,13 +63,13 @@ pub(crate) fn write_piece<F: Folder>(
     requires is_open { ForSome (F.told folder.old).files (IsOpen files.old) }
 
     // Each state that was kept, with such an object, is kept with the piece written and the part in front, but for the counters.
-    ensures written { OnOk result (ForSome (F.told folder.old).files (λ from. ForEachGrowingOfKey (piece.entry.number ∷ []) key.now parent.now.entry (cast_unsigned w64 parent.now.signature) from (λ state layout unlinked at object node. ForSome (F.told folder.new).files (KeepsParentThen (with_piece_written state at object piece.entry.number piece.entry.place piece.entry.bytes.now) layout unlinked at (with_piece object piece.entry.number piece.entry.place piece.entry.bytes.now) node parent.now.entry (cast_unsigned w64 parent.now.signature) from)))) }
+    ensures written { OnOk result (ForPieceOfKey (F.told folder.old) key.now parent.now piece.entry (WritesPiece (F.told folder.new))) }
 
     // At each word the old durable contents are recovered: a dirty object isn't durable.
-    ensures stops { ForSome (F.told folder.old).files (λ from. ForEachGrowingOfKey (piece.entry.number ∷ []) key.now parent.now.entry (cast_unsigned w64 parent.now.signature) from (λ state layout unlinked at object node. Passes (F.told folder.old) (F.told folder.new) (Finds (rest state)))) }
+    ensures stops { ForTold (F.told folder.old) (ForEachPieceOfKey key.now parent.now piece.entry) (DurableAtNode (F.told folder.old) (F.told folder.new)) }
 
     // Of a part that there is the data comes before its map, and one that is made is whole before its parent's bit is set.
-    ensures ordered { OnOk result (ForSome (F.told folder.old).files (λ from. ForEachGrowingOfKey (piece.entry.number ∷ []) key.now parent.now.entry (cast_unsigned w64 parent.now.signature) from (λ state layout unlinked at object node. IsPieceInOrder files.new state layout unlinked at object parent.now.entry (cast_unsigned w64 parent.now.signature) piece.entry.number piece.entry.place piece.entry.bytes.now (F.told folder.old) (F.told folder.new)))) }
+    ensures ordered { OnOk result (ForPieceOfKey (F.told folder.old) key.now parent.now piece.entry (OrdersPiece files.new (F.told folder.new))) }
 
     ensures buffer { length buffer.new ≡ length buffer.old }
     ensures keeps { KeepsStanding files.old files.new }
@@ -83,7 +79,7 @@ pub(crate) fn write_piece<F: Folder>(
     ensures damaged { IfDamaged result (IsFailedCheck files.new (F.told folder.new)) }
 
     // An observable folder, with such an object, reports no corruption.
-    ensures untold { ForSome (F.told folder.old).files (λ from. ForEachGrowingOfKey (piece.entry.number ∷ []) key.now parent.now.entry (cast_unsigned w64 parent.now.signature) from (λ state layout unlinked at object node. IfDamaged result (λ _. (F.told folder.old).files ≡ None))) }
+    ensures untold { ForTold (F.told folder.old) (ForEachPieceOfKey key.now parent.now piece.entry) (UndamagedAtNode result (F.told folder.old)) }
 
     ensures writes { MayWrite F.told F.faults folder.old folder.new (IfDevice result) }
 {
@@ -135,13 +131,13 @@ fn write_covered<F: Folder>(
     requires few { length data.bytes.now ≤ part_size }
     requires inside { data.offset + length data.bytes.now ≤ largest_offset }
     requires is_open { ForSome (F.told folder.old).files (IsOpen files.old) }
-    ensures written { OnOk result (ForSome (F.told folder.old).files (λ from. ForEachGrowingOfKey (covered_parts data.entry.offset (length data.entry.bytes.now)) key.now parent.now.entry (cast_unsigned w64 parent.now.signature) from (λ state layout unlinked at object node. ForSome (F.told folder.new).files (KeepsParentThen (with_bytes_written state at object data.entry.offset data.entry.bytes.now) layout unlinked at (with_bytes object data.entry.offset data.entry.bytes.now) node parent.now.entry (cast_unsigned w64 parent.now.signature) from)))) }
-    ensures stops { ForSome (F.told folder.old).files (λ from. ForEachGrowingOfKey (covered_parts data.entry.offset (length data.entry.bytes.now)) key.now parent.now.entry (cast_unsigned w64 parent.now.signature) from (λ state layout unlinked at object node. Passes (F.told folder.old) (F.told folder.new) (Finds (rest state)))) }
-    ensures ordered { OnOk result (ForSome (F.told folder.old).files (λ from. ForEachGrowingOfKey (covered_parts data.entry.offset (length data.entry.bytes.now)) key.now parent.now.entry (cast_unsigned w64 parent.now.signature) from (λ state layout unlinked at object node. AreInOrder (covered_parts data.entry.offset (length data.entry.bytes.now)) state layout unlinked at object parent.now.entry (cast_unsigned w64 parent.now.signature) data.entry.offset data.entry.bytes.now (F.told folder.old) (F.told folder.new)))) }
+    ensures written { OnOk result (ForBytesOfKey (F.told folder.old) key.now parent.now data.entry (WritesBytesAtNode (F.told folder.new))) }
+    ensures stops { ForTold (F.told folder.old) (ForEachCoveredOfKey key.now parent.now data.entry) (DurableAtNode (F.told folder.old) (F.told folder.new)) }
+    ensures ordered { OnOk result (ForBytesOfKey (F.told folder.old) key.now parent.now data.entry (OrdersBytesAtNode (F.told folder.new))) }
     ensures keeps { KeepsStanding files.old files.new }
     ensures is_open { OnOk result (ForSome (F.told folder.new).files (IsOpen files.new)) }
     ensures damaged { IfDamaged result (IsFailedCheck files.new (F.told folder.new)) }
-    ensures untold { ForSome (F.told folder.old).files (λ from. ForEachGrowingOfKey (covered_parts data.entry.offset (length data.entry.bytes.now)) key.now parent.now.entry (cast_unsigned w64 parent.now.signature) from (λ state layout unlinked at object node. IfDamaged result (λ _. (F.told folder.old).files ≡ None))) }
+    ensures untold { ForTold (F.told folder.old) (ForEachCoveredOfKey key.now parent.now data.entry) (UndamagedAtNode result (F.told folder.old)) }
     ensures writes { MayWrite F.told F.faults folder.old folder.new (IfDevice result) }
 {
     let SparseBytes { offset, bytes } = data;
@@ -193,13 +189,13 @@ pub fn write<F: Folder>(
     requires is_open { ForSome (F.told f.old).files (IsOpen files.old) }
 
     // Each state that was kept, with such an object, is kept with the bytes written and the parts in range in front, but for the counters.
-    ensures written { OnOk result (ForSome (F.told f.old).files (λ from. ForEachGrowing (covered_parts data.entry.offset (length data.entry.bytes.now)) parent.now.node parent.now.entry (cast_unsigned w64 parent.now.signature) from (λ state layout unlinked number object. ForSome (F.told f.new).files (KeepsParentThen (with_bytes_written state number object data.entry.offset data.entry.bytes.now) layout unlinked number (with_bytes object data.entry.offset data.entry.bytes.now) parent.now.node parent.now.entry (cast_unsigned w64 parent.now.signature) from)))) }
+    ensures written { OnOk result (ForWriteOf (F.told f.old) parent.now data.entry (WritesBytes (F.told f.new))) }
 
     // At each word the old durable contents are recovered: a dirty object isn't durable.
-    ensures stops { ForSome (F.told f.old).files (λ from. ForEachGrowing (covered_parts data.entry.offset (length data.entry.bytes.now)) parent.now.node parent.now.entry (cast_unsigned w64 parent.now.signature) from (λ state layout unlinked number object. Passes (F.told f.old) (F.told f.new) (Finds (rest state)))) }
+    ensures stops { ForTold (F.told f.old) (ForEachCovered parent.now data.entry) (Durable (F.told f.old) (F.told f.new)) }
 
     // The pieces come one after another: of a part that there is the data before its map, and one that is made is whole before its parent's bit is set.
-    ensures ordered { OnOk result (ForSome (F.told f.old).files (λ from. ForEachGrowing (covered_parts data.entry.offset (length data.entry.bytes.now)) parent.now.node parent.now.entry (cast_unsigned w64 parent.now.signature) from (λ state layout unlinked number object. AreInOrder (covered_parts data.entry.offset (length data.entry.bytes.now)) state layout unlinked number object parent.now.entry (cast_unsigned w64 parent.now.signature) data.entry.offset data.entry.bytes.now (F.told f.old) (F.told f.new)))) }
+    ensures ordered { OnOk result (ForWriteOf (F.told f.old) parent.now data.entry (OrdersBytes (F.told f.new))) }
 
     // What was valid still is.
     ensures keeps { KeepsStanding files.old files.new }
@@ -209,7 +205,7 @@ pub fn write<F: Folder>(
     ensures damaged { IfDamaged result (IsFailedCheck files.new (F.told f.new)) }
 
     // An observable folder, with such an object, reports no corruption.
-    ensures untold { ForSome (F.told f.old).files (λ from. ForEachGrowing (covered_parts data.entry.offset (length data.entry.bytes.now)) parent.now.node parent.now.entry (cast_unsigned w64 parent.now.signature) from (λ state layout unlinked number object. IfDamaged result (λ _. (F.told f.old).files ≡ None))) }
+    ensures untold { ForTold (F.told f.old) (ForEachCovered parent.now data.entry) (Undamaged result (F.told f.old)) }
 
     ensures writes { MayWrite F.told F.faults f.old f.new (IfDevice result) }
 {

@@ -13,3 +13,4 @@ pub mod Reasons
 pub mod Roles
 pub mod Streams
 pub mod Verdicts
+pub mod VerdictClauses

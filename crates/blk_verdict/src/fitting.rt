@@ -1,16 +1,16 @@
 // What is sought among the kept records, and whether one of them is that.
-ghost use Rattle.std.specs.Prelude.{◌≡◌, List, ℕ, IfOk, None, if◌then◌else◌, true};
+ghost use Rattle.std.specs.Prelude.{◌≡◌, IfOk, None, if◌then◌else◌, true};
 ghost use Rattle.std.specs.Int.{cast_unsigned, w64};
 ghost use Rattle.std.specs.Option.{ForSome};
 ghost use Rattle.spec_image.specs.Told.{ReadsOnly};
-ghost use Rattle.spec_folder.specs.Loads as shown;
 ghost use Rattle.blk_io.specs.Faults.{IfDamaged, IfDevice};
 ghost use Rattle.blk_disk.specs.Tables.{Agrees};
 ghost use Rattle.blk_verdict.specs.Keyed.{HasItsKey};
-ghost use Rattle.blk_verdict.specs.Kept.{HasPartNumber, IsLoadedFrom, is_parent_said, is_part_said, is_role_sought, is_sought};
+ghost use Rattle.blk_verdict.specs.Kept.{HasPartNumber, is_parent_said, is_part_said, is_role_sought, is_sought};
 ghost use Rattle.blk_verdict.specs.Readable.{HasReadableIndex, IsReadable};
 ghost use Rattle.blk_verdict.specs.Reads.{IsCutRead};
 ghost use Rattle.blk_verdict.specs.declared.fitting.Sought.TheVariants as variant;
+ghost use Rattle.blk_verdict.specs.VerdictClauses.{ChecksPass, ForLoaded, IsSoughtItself, WhereAgrees};
 
 use crate::loading::Loaded;
 use crate::parts::has_part;
@@ -89,10 +89,10 @@ pub(crate) fn fits<F: Folder>(
 ) -> Result<bool, Fault>
     requires readable { IsReadable files.now kept.now }
     requires part { HasPartNumber sought }
-    ensures fits { IfOk result (λ fits. ForSome (F.told folder.old).files (λ image. Agrees files.now image → (loaded : shown.Loaded) → IsLoadedFrom image loaded kept.now → fits ≡ is_sought sought key.now loaded)) }
+    ensures fits { IfOk result (λ fits. WhereAgrees (F.told folder.old) files.now (ForLoaded kept.now (λ loaded. fits ≡ is_sought sought key.now loaded))) }
     ensures reads { ReadsOnly F.told F.faults folder.old folder.new (IfDevice result) }
     ensures short { IfDamaged result (IsCutRead files.now (F.told folder.old)) }
-    ensures untold { ForSome (F.told folder.old).files (Agrees files.now) → ForSome (F.told folder.old).files (λ image. HasItsKey image kept.now) → IfDamaged result (λ _. (F.told folder.old).files ≡ None) }
+    ensures untold { ChecksPass result (F.told folder.old) files.now (λ image. HasItsKey image kept.now) }
 {
     if !sought.admits(kept.role) {
         return Ok(false);
@@ -113,7 +113,7 @@ fn has_bit<F: Folder>(
     requires index { HasReadableIndex files.now kept.now.sizes kept.now.addrs kept.now.role }
     requires role { is_role_sought sought kept.now.role ≡ true }
     requires part { HasPartNumber sought }
-    ensures fits { IfOk result (λ has. ForSome (F.told folder.old).files (λ image. (key : List ℕ) (loaded : shown.Loaded) → IsLoadedFrom image loaded kept.now → loaded.key ≡ key → has ≡ is_sought sought key loaded)) }
+    ensures fits { IfOk result (λ has. ForSome (F.told folder.old).files (IsSoughtItself sought kept.now has)) }
     ensures reads { ReadsOnly F.told F.faults folder.old folder.new (IfDevice result) }
     ensures short { IfDamaged result (IsCutRead files.now (F.told folder.old)) }
     ensures untold { ForSome (F.told folder.old).files (Agrees files.now) → IfDamaged result (λ _. (F.told folder.old).files ≡ None) }

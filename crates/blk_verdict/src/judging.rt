@@ -1,16 +1,12 @@
 // The verdict on a node, against the records that are kept so far.
-ghost use Rattle.std.specs.Prelude.{◌≡◌, ◌<◌, List, IfOk, None, OnOk, length};
-ghost use Rattle.std.specs.Option.{ForSome};
+ghost use Rattle.std.specs.Prelude.{◌≡◌, ◌<◌, IfOk, OnOk, length};
 ghost use Rattle.spec_image.specs.Told.{ReadsOnly};
-ghost use Rattle.spec_folder.specs.Audit as audit;
 ghost use Rattle.spec_folder.specs.Loads as shown;
-ghost use Rattle.spec_folder.specs.View.{store_of};
-ghost use Rattle.blk_disk.specs.Tables.{Agrees};
 ghost use Rattle.blk_entry.specs.Keys.{most_key};
 ghost use Rattle.blk_audit.specs.Faults.{IfScanDamaged, IfScanDevice};
-ghost use Rattle.blk_audit.specs.ReadLists.{AreListsOf, IsSaidAt};
-ghost use Rattle.blk_verdict.specs.Kept.{AreShown, HaveKeys, IsSameAnswer, IsKeptInOrder, KeepsAtMostOne};
+ghost use Rattle.blk_verdict.specs.Kept.{HaveKeys, IsKeptInOrder, KeepsAtMostOne};
 ghost use Rattle.blk_verdict.specs.Reads.{IsCutRead};
+ghost use Rattle.blk_verdict.specs.VerdictClauses.{AnswersAt, KeepsAsJudged, KeepsKeys, ScanPassesAt, WhereNode};
 
 use crate::kept::KeptSoFar;
 use crate::loading::Verdict;
@@ -34,14 +30,14 @@ pub(crate) fn judge_walked<F: Folder>(
 ) -> Result<Option<Reason>, ScanFault>
     requires order { IsKeptInOrder files.now kept.old }
     requires room { length name.old ≡ most_key }
-    ensures answer { IfOk result (λ reason. ForSome (F.told folder.old).files (λ image. Agrees files.now image → AreListsOf image lists.now → IsSaidAt image node.now → (so_far : List shown.Loaded) → AreShown image so_far kept.old.kept.items → IsSameAnswer (audit.verdict (store_of image) shown.held_rule so_far node.now.addr) reason)) }
-    ensures shown { OnOk result (ForSome (F.told folder.old).files (λ image. Agrees files.now image → AreListsOf image lists.now → IsSaidAt image node.now → (so_far : List shown.Loaded) → AreShown image so_far kept.old.kept.items → AreShown image (audit.with_verdict so_far (audit.verdict (store_of image) shown.held_rule so_far node.now.addr)) kept.new.kept.items)) }
-    ensures keys { OnOk result (ForSome (F.told folder.old).files (λ image. Agrees files.now image → AreListsOf image lists.now → IsSaidAt image node.now → HaveKeys image kept.old.kept.items → HaveKeys image kept.new.kept.items)) }
+    ensures answer { IfOk result (λ reason. WhereNode (F.told folder.old) files.now lists.now node.now (AnswersAt kept.old node.now reason)) }
+    ensures shown { OnOk result (WhereNode (F.told folder.old) files.now lists.now node.now (KeepsAsJudged kept.old kept.new node.now)) }
+    ensures keys { OnOk result (WhereNode (F.told folder.old) files.now lists.now node.now (KeepsKeys kept.old kept.new)) }
     ensures kept { IfOk result (KeepsAtMostOne kept.old.kept.items kept.new.kept.items) }
     ensures order { OnOk result (IsKeptInOrder files.now kept.new) }
     ensures reads { ReadsOnly F.told F.faults folder.old folder.new (IfScanDevice result) }
     ensures short { IfScanDamaged result (IsCutRead files.now (F.told folder.old)) }
-    ensures untold { ForSome (F.told folder.old).files (λ image. Agrees files.now image) → ForSome (F.told folder.old).files (λ image. AreListsOf image lists.now × IsSaidAt image node.now) → ForSome (F.told folder.old).files (λ image. HaveKeys image kept.old.kept.items) → IfScanDamaged result (λ _. (F.told folder.old).files ≡ None) }
+    ensures untold { ScanPassesAt result (F.told folder.old) files.now lists.now node.now (λ image. HaveKeys image kept.old.kept.items) }
 {
     match load_walked(folder, files, lists, node, name)? {
         Verdict::Loaded(loaded) => {

@@ -1,21 +1,16 @@
 // The records that are kept so far, against which a further one is judged.
-ghost use Rattle.std.specs.Prelude.{◌≡◌, ◌≤◌, ◌<◌, ◌++◌, ◌||◌, [], ◌∷◌, List, IfOk, None, OnOk, Ok, false, length, slice_get};
-ghost use Rattle.std.specs.List.{list_any};
-ghost use Rattle.std.specs.Option.{ForSome};
+ghost use Rattle.std.specs.Prelude.{◌≡◌, ◌≤◌, ◌<◌, ◌++◌, [], ◌∷◌, IfOk, None, OnOk, Ok, false, length, slice_get};
 ghost use Rattle.spec_image.specs.Told.{ReadsOnly};
-ghost use Rattle.spec_format.specs.Claims.{claims_of_all, overlap, repeats};
-ghost use Rattle.spec_format.specs.Hash.{hash as hash_of};
-ghost use Rattle.spec_folder.specs.Audit as audit;
+ghost use Rattle.spec_format.specs.Claims.{claims_of_all, repeats};
 ghost use Rattle.blk_addr.specs.Claims.{IsClaimsOf};
 ghost use Rattle.spec_folder.specs.Loads as shown;
 ghost use Rattle.blk_io.specs.Faults.{IfDamaged, IfDevice};
-ghost use Rattle.blk_disk.specs.Tables.{Agrees};
 ghost use Rattle.blk_entry.specs.Keys.{most_key};
 ghost use Rattle.blk_audit.specs.Faults.{IfScanDamaged, IfScanDevice};
-ghost use Rattle.blk_verdict.specs.Kept.{AreShown, HasPartNumber, HaveKeys, IsAlwaysInOrder, IsSameAnswer, IsKeptInOrder, IsIndexed, IsLoadedFrom, NoneMayBe, addresses_of, addresses_of_all, claims_kept, is_sought, kept_with, records_kept};
-ghost use Rattle.blk_verdict.specs.PartNames.{IsNameOf};
+ghost use Rattle.blk_verdict.specs.Kept.{HasPartNumber, HaveKeys, IsAlwaysInOrder, IsKeptInOrder, IsIndexed, NoneMayBe, addresses_of, addresses_of_all, claims_kept, kept_with, records_kept};
 ghost use Rattle.blk_verdict.specs.Readable.{IsReadable};
 ghost use Rattle.blk_verdict.specs.Reads.{IsCutRead};
+ghost use Rattle.blk_verdict.specs.VerdictClauses.{AdmitsAs, ChecksPass, FindsSought, KeepsAsAdmitted, SaysShared, SaysSought, ScanPasses, WhereAgrees, WhereGiven, WhereLoaded, is_claimed_already, repeats_with};
 
 use crate::by_hash::ByHash;
 use crate::fitting::{Sought, fits};
@@ -96,13 +91,13 @@ impl KeptSoFar {
     ) -> Result<Option<Reason>, ScanFault>
         requires order { IsKeptInOrder files.now self.old }
         requires readable { IsReadable files.now loaded }
-        ensures answer { IfOk result (λ reason. ForSome (F.told folder.old).files (λ image. Agrees files.now image → (kept : List shown.Loaded) (given : shown.Loaded) → AreShown image kept self.old.kept.items → IsLoadedFrom image given loaded → IsNameOf image loaded key.now → IsSameAnswer (audit.admit kept given) reason)) }
-        ensures shown { IfOk result (λ reason. ForSome (F.told folder.old).files (λ image. Agrees files.now image → (kept : List shown.Loaded) (given : shown.Loaded) → AreShown image kept self.old.kept.items → IsLoadedFrom image given loaded → IsNameOf image loaded key.now → AreShown image (audit.with_verdict kept (audit.admit kept given)) self.new.kept.items)) }
+        ensures answer { IfOk result (λ reason. WhereGiven (F.told folder.old) files.now self.old loaded key.now (AdmitsAs reason)) }
+        ensures shown { IfOk result (λ reason. WhereGiven (F.told folder.old) files.now self.old loaded key.now (KeepsAsAdmitted self.new)) }
         ensures kept { IfOk result (λ reason. self.new.kept.items ≡ kept_with self.old.kept.items loaded reason) }
         ensures order { OnOk result (IsKeptInOrder files.now self.new) }
         ensures reads { ReadsOnly F.told F.faults folder.old folder.new (IfScanDevice result) }
         ensures short { IfScanDamaged result (IsCutRead files.now (F.told folder.old)) }
-        ensures untold { ForSome (F.told folder.old).files (Agrees files.now) → ForSome (F.told folder.old).files (λ image. HaveKeys image (loaded ∷ self.old.kept.items)) → IfScanDamaged result (λ _. (F.told folder.old).files ≡ None) }
+        ensures untold { ScanPasses result (F.told folder.old) files.now (λ image. HaveKeys image (loaded ∷ self.old.kept.items)) }
     {
         let reason = self.reason_for(folder, files, &loaded, key)?;
         if reason.is_none() {
@@ -121,11 +116,11 @@ impl KeptSoFar {
     ) -> Result<Option<Reason>, Fault>
         requires order { IsKeptInOrder files.now self.now }
         requires readable { IsReadable files.now loaded.now }
-        ensures answer { IfOk result (λ reason. ForSome (F.told folder.old).files (λ image. Agrees files.now image → (kept : List shown.Loaded) (given : shown.Loaded) → AreShown image kept self.now.kept.items → IsLoadedFrom image given loaded.now → IsNameOf image loaded.now key.now → IsSameAnswer (audit.admit kept given) reason)) }
+        ensures answer { IfOk result (λ reason. WhereGiven (F.told folder.old) files.now self.now loaded.now key.now (AdmitsAs reason)) }
         ensures apart { result ≡ Ok None → repeats (claims_of_all (addresses_of_all self.now.kept.items ++ addresses_of loaded.now)) ≡ false }
         ensures reads { ReadsOnly F.told F.faults folder.old folder.new (IfDevice result) }
         ensures short { IfDamaged result (IsCutRead files.now (F.told folder.old)) }
-        ensures untold { ForSome (F.told folder.old).files (Agrees files.now) → ForSome (F.told folder.old).files (λ image. HaveKeys image (loaded.now ∷ self.now.kept.items)) → IfDamaged result (λ _. (F.told folder.old).files ≡ None) }
+        ensures untold { ChecksPass result (F.told folder.old) files.now (λ image. HaveKeys image (loaded.now ∷ self.now.kept.items)) }
     {
         if self.collides(loaded) {
             return Ok(Some(Reason::Claimed));
@@ -141,7 +136,7 @@ impl KeptSoFar {
 
     // Whether a record shares a block or an external file with one that is kept, or names one twice.
     fn collides(&self, loaded: &Loaded) -> bool
-        ensures { IsClaimsOf self.now.claims (addresses_of_all self.now.kept.items) → result ≡ (repeats (claims_of_all (addresses_of loaded.now)) || overlap (claims_of_all (addresses_of_all self.now.kept.items)) (claims_of_all (addresses_of loaded.now))) }
+        ensures { IsClaimsOf self.now.claims (addresses_of_all self.now.kept.items) → result ≡ is_claimed_already self.now loaded.now }
     {
         let owned = Owned::of(loaded);
         !self.claims.are_free(owned.as_slice())
@@ -158,10 +153,10 @@ impl KeptSoFar {
     ) -> Result<bool, Fault>
         requires order { IsKeptInOrder files.now self.now }
         requires readable { IsReadable files.now loaded.now }
-        ensures shares { IfOk result (λ shares. ForSome (F.told folder.old).files (λ image. Agrees files.now image → (kept : List shown.Loaded) (given : shown.Loaded) → AreShown image kept self.now.kept.items → IsLoadedFrom image given loaded.now → IsNameOf image loaded.now key.now → shares ≡ audit.shares_key kept given)) }
+        ensures shares { IfOk result (λ shares. WhereGiven (F.told folder.old) files.now self.now loaded.now key.now (SaysShared shares)) }
         ensures reads { ReadsOnly F.told F.faults folder.old folder.new (IfDevice result) }
         ensures short { IfDamaged result (IsCutRead files.now (F.told folder.old)) }
-        ensures untold { ForSome (F.told folder.old).files (Agrees files.now) → ForSome (F.told folder.old).files (λ image. HaveKeys image (loaded.now ∷ self.now.kept.items)) → IfDamaged result (λ _. (F.told folder.old).files ≡ None) }
+        ensures untold { ChecksPass result (F.told folder.old) files.now (λ image. HaveKeys image (loaded.now ∷ self.now.kept.items)) }
     {
         let sought = Sought::alike(loaded.role);
         if !self.may_have(loaded.hash, loaded.key_len, sought) {
@@ -183,10 +178,10 @@ impl KeptSoFar {
         requires readable { IsReadable files.now loaded.now }
         requires short { loaded.now.key_len ≤ most_key }
         requires part { HasPartNumber sought }
-        ensures has { IfOk result (λ has. ForSome (F.told folder.old).files (λ image. Agrees files.now image → (kept : List shown.Loaded) (given : shown.Loaded) → AreShown image kept self.now.kept.items → IsLoadedFrom image given loaded.now → IsNameOf image loaded.now key.now → has ≡ list_any (is_sought sought given.key) kept)) }
+        ensures has { IfOk result (λ has. WhereGiven (F.told folder.old) files.now self.now loaded.now key.now (SaysSought sought has)) }
         ensures reads { ReadsOnly F.told F.faults folder.old folder.new (IfDevice result) }
         ensures short { IfDamaged result (IsCutRead files.now (F.told folder.old)) }
-        ensures untold { ForSome (F.told folder.old).files (Agrees files.now) → ForSome (F.told folder.old).files (λ image. HaveKeys image (loaded.now ∷ self.now.kept.items)) → IfDamaged result (λ _. (F.told folder.old).files ≡ None) }
+        ensures untold { ChecksPass result (F.told folder.old) files.now (λ image. HaveKeys image (loaded.now ∷ self.now.kept.items)) }
     {
         match loaded.role {
             Role::Plain => self.has_stored_key(folder, files, loaded, sought),
@@ -207,10 +202,10 @@ impl KeptSoFar {
         requires readable { IsReadable files.now loaded.now }
         requires short { loaded.now.key_len ≤ most_key }
         requires part { HasPartNumber sought }
-        ensures has { IfOk result (λ has. ForSome (F.told folder.old).files (λ image. Agrees files.now image → (kept : List shown.Loaded) (given : shown.Loaded) → AreShown image kept self.now.kept.items → IsLoadedFrom image given loaded.now → has ≡ list_any (is_sought sought given.key) kept)) }
+        ensures has { IfOk result (λ has. WhereLoaded (F.told folder.old) files.now self.now loaded.now (SaysSought sought has)) }
         ensures reads { ReadsOnly F.told F.faults folder.old folder.new (IfDevice result) }
         ensures short { IfDamaged result (IsCutRead files.now (F.told folder.old)) }
-        ensures untold { ForSome (F.told folder.old).files (Agrees files.now) → ForSome (F.told folder.old).files (λ image. HaveKeys image (loaded.now ∷ self.now.kept.items)) → IfDamaged result (λ _. (F.told folder.old).files ≡ None) }
+        ensures untold { ChecksPass result (F.told folder.old) files.now (λ image. HaveKeys image (loaded.now ∷ self.now.kept.items)) }
     {
         let mut buffer = [0u8; LONGEST_NAME as usize];
         let key = &mut buffer[..loaded.key_len as usize];
@@ -247,10 +242,10 @@ impl KeptSoFar {
     ) -> Result<bool, Fault>
         requires order { IsKeptInOrder files.now self.now }
         requires part { HasPartNumber sought }
-        ensures has { IfOk result (λ has. ForSome (F.told folder.old).files (λ image. Agrees files.now image → hash ≡ hash_of key.now → (kept : List shown.Loaded) → AreShown image kept self.now.kept.items → has ≡ list_any (is_sought sought key.now) kept)) }
+        ensures has { IfOk result (λ has. WhereAgrees (F.told folder.old) files.now (FindsSought self.now sought hash key.now has)) }
         ensures reads { ReadsOnly F.told F.faults folder.old folder.new (IfDevice result) }
         ensures short { IfDamaged result (IsCutRead files.now (F.told folder.old)) }
-        ensures untold { ForSome (F.told folder.old).files (Agrees files.now) → ForSome (F.told folder.old).files (λ image. HaveKeys image self.now.kept.items) → IfDamaged result (λ _. (F.told folder.old).files ≡ None) }
+        ensures untold { ChecksPass result (F.told folder.old) files.now (λ image. HaveKeys image self.now.kept.items) }
     {
         let mut place = self.by_hash.last(hash);
         while let Some(i) = place {
@@ -268,7 +263,7 @@ impl KeptSoFar {
     // Keeps a record that shares nothing with those that are kept, and names nothing twice.
     fn keep(&mut self, loaded: Loaded) -> Result<(), NoMemory>
         ensures kept { OnOk result (self.new.kept.items ≡ self.old.kept.items ++ loaded ∷ []) }
-        ensures indexed { OnOk result (IsIndexed self.old → repeats (claims_of_all (addresses_of_all self.old.kept.items ++ addresses_of loaded)) ≡ false → IsIndexed self.new) }
+        ensures indexed { OnOk result (IsIndexed self.old → repeats_with self.old loaded ≡ false → IsIndexed self.new) }
     {
         let owned = Owned::of(&loaded);
         self.claims.add_all(owned.as_slice())?;

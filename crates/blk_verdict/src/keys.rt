@@ -1,15 +1,13 @@
 // The key of a record that is judged.
-ghost use Rattle.std.specs.Prelude.{◌≡◌, ◌≤◌, ℕ, List, IfOk, IsTrue, None, OnErr, OnOk, Some, false, is_some, length, true};
+ghost use Rattle.std.specs.Prelude.{◌≡◌, ◌≤◌, IfOk, IsTrue, OnErr, OnOk, length, true};
 ghost use Rattle.std.specs.Option.{ForSome};
 ghost use Rattle.spec_image.specs.Told.{ReadsOnly};
 ghost use Rattle.spec_format.specs.Address.{blocks_256, kind_of};
-ghost use Rattle.spec_folder.specs.Entries.{stored_key};
-ghost use Rattle.spec_folder.specs.View.{store_of};
 ghost use Rattle.blk_io.specs.Faults.{IfDamaged, IfDevice};
-ghost use Rattle.blk_disk.specs.Tables.{Agrees, stands_among};
-ghost use Rattle.blk_entry.specs.Keys.{IsPlaced, is_short, may_hold, most_key};
+ghost use Rattle.blk_disk.specs.Tables.{stands_among};
+ghost use Rattle.blk_entry.specs.Keys.{IsPlaced, most_key};
 ghost use Rattle.blk_verdict.specs.Reads.{IsCutRead};
-ghost use Rattle.blk_audit.specs.Records.{fields_said};
+ghost use Rattle.blk_verdict.specs.VerdictClauses.{ChecksPass, HasPlaceIfLong, IsStoredKey, SaysHasKey, has_stored_key};
 
 use crate::storage::is_stored;
 use blk_addr::{Addr, LONGEST_SHORT_KEY};
@@ -26,8 +24,8 @@ pub(crate) fn has_key<F: Folder>(
     words: &RecordWords,
 ) -> Result<bool, Failed>
     requires short { words.now.key_len ≤ most_key }
-    ensures key { IfOk result (λ has. ForSome (F.told folder.old).files (λ image. (entry : ℕ) → Agrees files.now image → has ≡ is_some (stored_key (store_of image) entry (fields_said words.now)))) }
-    ensures holds { IfOk result (λ has. IsTrue has → is_short words.now.key_len ≡ false → may_hold files.now words.now.key_len words.now.long_key ≡ true) }
+    ensures key { IfOk result (λ has. ForSome (F.told folder.old).files (SaysHasKey files.now words.now has)) }
+    ensures holds { IfOk result (λ has. IsTrue has → HasPlaceIfLong files.now words.now) }
     ensures reads { ReadsOnly F.told F.faults folder.old folder.new (OnErr result) }
 {
     if words.key_len <= LONGEST_SHORT_KEY {
@@ -48,10 +46,10 @@ pub(crate) fn read_key<F: Folder>(
     requires stands { IsTrue (stands_among files.now entry) }
     requires placed { IsPlaced files.now entry words.now.key_len words.now.long_key }
     requires size { length out.old ≡ words.now.key_len }
-    ensures key { OnOk result (ForSome (F.told folder.old).files (λ image. (key : List ℕ) → stored_key (store_of image) entry (fields_said words.now) ≡ Some key → out.new ≡ key)) }
+    ensures key { OnOk result (ForSome (F.told folder.old).files (IsStoredKey entry words.now out.new)) }
     ensures reads { ReadsOnly F.told F.faults folder.old folder.new (IfDevice result) }
     ensures short { IfDamaged result (IsCutRead files.now (F.told folder.old)) }
-    ensures untold { ForSome (F.told folder.old).files (λ image. Agrees files.now image) → ForSome (F.told folder.old).files (λ image. is_some (stored_key (store_of image) entry (fields_said words.now)) ≡ true) → IfDamaged result (λ _. (F.told folder.old).files ≡ None) }
+    ensures untold { ChecksPass result (F.told folder.old) files.now (λ image. has_stored_key image entry words.now ≡ true) }
 {
     if words.key_len <= LONGEST_SHORT_KEY {
         return read_data(folder, files, entry, EntryView::SIZE as u32, out);

@@ -1,17 +1,11 @@
 // The records that no walked node lists.
-ghost use Rattle.std.specs.Prelude.{◌≡◌, ℕ, ◌++◌, [], ◌∷◌, IfOk, None, OnOk, Some, map, slice_get};
-ghost use Rattle.std.specs.List.{filter};
+ghost use Rattle.std.specs.Prelude.{◌≡◌, ◌++◌, [], ◌∷◌, IfOk, None, OnOk};
 ghost use Rattle.std.specs.Option.{ForSome};
 ghost use Rattle.spec_image.specs.Told.{ReadsOnly};
-ghost use Rattle.spec_folder.specs.Audit as audit;
-ghost use Rattle.spec_folder.specs.Found.{completed};
-ghost use Rattle.spec_folder.specs.Reasons as reason;
-ghost use Rattle.spec_folder.specs.View.{view_of};
 ghost use Rattle.blk_disk.specs.Tables.{Agrees};
 ghost use Rattle.blk_io.specs.Faults.{IfDamaged, IfDevice};
-ghost use Rattle.blk_audit.specs.Chaining.{words_reached};
 ghost use Rattle.blk_audit.specs.Faults.{IfScanDamaged, IfScanDevice, IsRecordDamage};
-ghost use Rattle.blk_audit.specs.ReadLists.{AreListsOf};
+ghost use Rattle.blk_verdict.specs.VerdictClauses.{AddsIfUnlisted, AreUnlisted, SaysUnlisted, ScanPassesWhere, WhereRead};
 
 use blk_addr::{Addr, NoMemory};
 use blk_audit::{Lists, ScanFault};
@@ -30,10 +24,10 @@ pub fn unlisted<F: Folder>(
     files: &BlockFiles,
     lists: &Lists,
 ) -> Result<Vec<Addr>, ScanFault>
-    ensures unlisted { IfOk result (λ found. ForSome (F.told folder.old).files (λ image. Agrees files.now image → AreListsOf image lists.now → map (λ contents. (contents, reason.Unlisted)) found.items ≡ audit.unlisted (completed (view_of image)))) }
+    ensures unlisted { IfOk result (λ found. WhereRead (F.told folder.old) files.now lists.now (AreUnlisted found.items)) }
     ensures reads { ReadsOnly F.told F.faults folder.old folder.new (IfScanDevice result) }
     ensures damaged { IfScanDamaged result (IsRecordDamage files.now (F.told folder.new)) }
-    ensures untold { ForSome (F.told folder.old).files (Agrees files.now) → IfScanDamaged result (λ _. (F.told folder.old).files ≡ None) }
+    ensures untold { ScanPassesWhere result (F.told folder.old) (Agrees files.now) }
 {
     let mut found = Vec::new(alloc);
     for i in 0..lists.reached.count() {
@@ -50,7 +44,7 @@ fn add_if<F: Folder>(
     i: usize,
     found: &mut Vec<Addr>,
 ) -> Result<(), ScanFault>
-    ensures added { OnOk result (ForSome (F.told folder.old).files (λ image. Agrees files.now image → AreListsOf image lists.now → (w : ℕ) → slice_get (words_reached lists.now.reached) i ≡ Some w → found.new.items ≡ found.old.items ++ filter (audit.is_unlisted (completed (view_of image))) (w ∷ []))) }
+    ensures added { OnOk result (WhereRead (F.told folder.old) files.now lists.now (AddsIfUnlisted lists.now i found.old.items found.new.items)) }
     ensures reads { ReadsOnly F.told F.faults folder.old folder.new (IfScanDevice result) }
     ensures damaged { IfScanDamaged result (IsRecordDamage files.now (F.told folder.new)) }
     ensures untold { ForSome (F.told folder.new).files (Agrees files.now) → IfScanDamaged result (λ _. (F.told folder.new).files ≡ None) }
@@ -80,7 +74,7 @@ fn is_unlisted<F: Folder>(
     lists: &Lists,
     word: u32,
 ) -> Result<bool, Fault>
-    ensures unlisted { IfOk result (λ is. ForSome (F.told folder.old).files (λ image. Agrees files.now image → AreListsOf image lists.now → is ≡ audit.is_unlisted (completed (view_of image)) word)) }
+    ensures unlisted { IfOk result (λ is. WhereRead (F.told folder.old) files.now lists.now (SaysUnlisted word is)) }
     ensures reads { ReadsOnly F.told F.faults folder.old folder.new (IfDevice result) }
     ensures damaged { IfDamaged result (IsRecordDamage files.now (F.told folder.new)) }
     ensures untold { ForSome (F.told folder.new).files (Agrees files.now) → IfDamaged result (λ _. (F.told folder.new).files ≡ None) }

@@ -1,28 +1,18 @@
 // The verdict on a node by itself.
-ghost use Rattle.std.specs.Prelude.{◌≡◌, ◌≢◌, ◌≤◌, ℕ, List, IfOk, IfSome, IsTrue, None, OnOk, Some, is_some, length, take, true};
+ghost use Rattle.std.specs.Prelude.{◌≡◌, ◌≢◌, ◌≤◌, IfOk, IfSome, IsTrue, None, OnOk, length, true};
 ghost use Rattle.std.specs.Option.{ForSome};
 ghost use Rattle.spec_image.specs.Told.{ReadsOnly};
 ghost use Rattle.spec_format.specs.Address.{blocks_256, kind_of};
-ghost use Rattle.spec_format.specs.BlockFiles.{is_among};
-ghost use Rattle.spec_format.specs.Hash.{hash as hash_of};
-ghost use Rattle.spec_format.specs.Headers.{table_length};
 ghost use Rattle.spec_format.specs.Records.{child};
-ghost use Rattle.spec_folder.specs.Chains.{bucket_of_hash, chain};
-ghost use Rattle.spec_folder.specs.Entries.{stored_key};
 ghost use Rattle.blk_entry.specs.Keys.{IsPlaced, may_have, most_key};
-ghost use Rattle.spec_folder.specs.Loads as shown;
-ghost use Rattle.spec_folder.specs.Loads.{held_rule};
-ghost use Rattle.spec_folder.specs.View.{store_of};
 ghost use Rattle.blk_io.specs.Faults.{IfDamaged, IfDevice};
 ghost use Rattle.blk_disk.specs.Tables.{Agrees, stands_among};
-ghost use Rattle.blk_audit.specs.Chaining.{reached_by};
-ghost use Rattle.blk_verdict.specs.Loading as loading;
-ghost use Rattle.blk_audit.specs.ReadLists.{IsSaidAt};
 ghost use Rattle.blk_verdict.specs.PartNames.{IsKeyInPrefix, IsNameInPrefix};
 ghost use Rattle.blk_verdict.specs.Readable.{IsReadableIf};
 ghost use Rattle.blk_verdict.specs.Reads.{IsCutRead};
-ghost use Rattle.blk_audit.specs.Records.{AreWordsOf, IsHashOfKey, IsRightWhereSaid, fields_said};
-ghost use Rattle.blk_verdict.specs.Verdicts.{IsVerdict, loaded_with};
+ghost use Rattle.blk_audit.specs.Records.{IsHashOfKey};
+ghost use Rattle.blk_verdict.specs.Verdicts.{loaded_with};
+ghost use Rattle.blk_verdict.specs.VerdictClauses.{ChecksPass, IsHashIfRight, IsKeyIfChild, JudgesData, JudgesKey, JudgesNode, JudgesRecord, JudgesStreams, NamesPart, WhereAgrees, has_stored_key};
 
 use crate::keys::{has_key, read_key};
 use crate::reason::Reason;
@@ -76,7 +66,7 @@ pub fn load<F: Folder>(
     node: &WalkedNode,
     reached: bool,
 ) -> Result<Verdict, Fault>
-    ensures verdict { IfOk result (λ verdict. ForSome (F.told folder.old).files (λ image. Agrees files.now image → IsSaidAt image node.now → reached ≡ is_among (reached_by (store_of image) table_length) node.now.contents → IsVerdict (shown.load (store_of image) held_rule node.now.addr) verdict)) }
+    ensures verdict { IfOk result (λ verdict. WhereAgrees (F.told folder.old) files.now (JudgesNode node.now reached verdict)) }
     ensures readable { IfOk result (IsReadableIf files.now) }
     ensures reads { ReadsOnly F.told F.faults folder.old folder.new (IfDevice result) }
     ensures short { IfDamaged result (IsCutRead files.now (F.told folder.old)) }
@@ -107,7 +97,7 @@ pub(crate) fn load_words<F: Folder>(
     requires kind { kind_of entry ≡ blocks_256 }
     requires stands { IsTrue (stands_among files.now entry) }
     requires room { length name.old ≡ most_key }
-    ensures verdict { IfOk result (λ verdict. ForSome (F.told folder.old).files (λ image. Agrees files.now image → AreWordsOf image entry said.now.words → IsRightWhereSaid image entry said.now → (store_of image).node_fields node.now.addr ≡ Some (record { contents = entry; dirty = node.now.dirty }) → reached ≡ is_among (reached_by (store_of image) table_length) entry → IsVerdict (shown.load (store_of image) held_rule node.now.addr) verdict)) }
+    ensures verdict { IfOk result (λ verdict. WhereAgrees (F.told folder.old) files.now (JudgesRecord node.now entry said.now reached verdict)) }
     ensures named { IfOk result (λ verdict. ForSome (F.told folder.old).files (λ image. Agrees files.now image → IsNameInPrefix image verdict name.new)) }
     ensures readable { IfOk result (IsReadableIf files.now) }
     ensures reads { ReadsOnly F.told F.faults folder.old folder.new (IfDevice result) }
@@ -136,7 +126,7 @@ fn load_data<F: Folder>(
     requires stands { IsTrue (stands_among files.now entry) }
     requires has { may_have entry said.now.words.key_len ≡ true }
     requires room { length name.old ≡ most_key }
-    ensures verdict { IfOk result (λ verdict. ForSome (F.told folder.old).files (λ image. (dirty : ℕ) → Agrees files.now image → IsRightWhereSaid image entry said.now → reached ≡ is_among (chain (store_of image) (bucket_of_hash said.now.words.hash)).reached entry → IsVerdict (loading.load_data (store_of image) node entry dirty (fields_said said.now.words)) verdict)) }
+    ensures verdict { IfOk result (λ verdict. ForSome (F.told folder.old).files (JudgesData files.now node entry said.now reached verdict)) }
     ensures named { IfOk result (λ verdict. ForSome (F.told folder.old).files (λ image. Agrees files.now image → IsNameInPrefix image verdict name.new)) }
     ensures readable { IfOk result (IsReadableIf files.now) }
     ensures reads { ReadsOnly F.told F.faults folder.old folder.new (IfDevice result) }
@@ -165,12 +155,12 @@ fn load_key<F: Folder>(
     requires placed { IsPlaced files.now entry said.now.words.key_len said.now.words.long_key }
     requires short { said.now.words.key_len ≤ most_key }
     requires room { length name.old ≡ most_key }
-    ensures verdict { IfOk result (λ verdict. ForSome (F.told folder.old).files (λ image. (dirty : ℕ) → Agrees files.now image → is_some (stored_key (store_of image) entry (fields_said said.now.words)) ≡ true → IsRightWhereSaid image entry said.now → reached ≡ is_among (chain (store_of image) (bucket_of_hash said.now.words.hash)).reached entry → IsVerdict (loading.load_data (store_of image) node entry dirty (fields_said said.now.words)) verdict)) }
+    ensures verdict { IfOk result (λ verdict. ForSome (F.told folder.old).files (JudgesKey files.now node entry said.now reached verdict)) }
     ensures named { IfOk result (λ verdict. ForSome (F.told folder.old).files (λ image. Agrees files.now image → IsNameInPrefix image verdict name.new)) }
     ensures readable { IfOk result (IsReadableIf files.now) }
     ensures reads { ReadsOnly F.told F.faults folder.old folder.new (IfDevice result) }
     ensures short { IfDamaged result (IsCutRead files.now (F.told folder.old)) }
-    ensures untold { ForSome (F.told folder.old).files (Agrees files.now) → ForSome (F.told folder.old).files (λ image. is_some (stored_key (store_of image) entry (fields_said said.now.words)) ≡ true) → IfDamaged result (λ _. (F.told folder.old).files ≡ None) }
+    ensures untold { ChecksPass result (F.told folder.old) files.now (λ image. has_stored_key image entry said.now.words ≡ true) }
 {
     let sum = key_sum(folder, files, entry, said, name)?;
     if said.words.hash != sum {
@@ -195,11 +185,11 @@ fn key_sum<F: Folder>(
     requires placed { IsPlaced files.now entry said.now.words.key_len said.now.words.long_key }
     requires short { said.now.words.key_len ≤ most_key }
     requires room { length name.old ≡ most_key }
-    ensures sum { IfOk result (λ sum. ForSome (F.told folder.old).files (λ image. IsRightWhereSaid image entry said.now → IsHashOfKey image entry said.now.words sum)) }
-    ensures key { OnOk result (ForSome (F.told folder.old).files (λ image. said.now.words.flags ≡ child → IsKeyInPrefix image entry said.now.words name.new)) }
+    ensures sum { IfOk result (λ sum. ForSome (F.told folder.old).files (IsHashIfRight entry said.now sum)) }
+    ensures key { OnOk result (ForSome (F.told folder.old).files (IsKeyIfChild entry said.now.words name.new)) }
     ensures reads { ReadsOnly F.told F.faults folder.old folder.new (IfDevice result) }
     ensures short { IfDamaged result (IsCutRead files.now (F.told folder.old)) }
-    ensures untold { ForSome (F.told folder.old).files (Agrees files.now) → ForSome (F.told folder.old).files (λ image. is_some (stored_key (store_of image) entry (fields_said said.now.words)) ≡ true) → IfDamaged result (λ _. (F.told folder.old).files ≡ None) }
+    ensures untold { ChecksPass result (F.told folder.old) files.now (λ image. has_stored_key image entry said.now.words ≡ true) }
 {
     match known_hash(said) {
         Some(sum) => Ok(sum),
@@ -238,7 +228,7 @@ fn read_sum<F: Folder>(
     ensures key { OnOk result (ForSome (F.told folder.old).files (λ image. IsKeyInPrefix image entry words.now name.new)) }
     ensures reads { ReadsOnly F.told F.faults folder.old folder.new (IfDevice result) }
     ensures short { IfDamaged result (IsCutRead files.now (F.told folder.old)) }
-    ensures untold { ForSome (F.told folder.old).files (Agrees files.now) → ForSome (F.told folder.old).files (λ image. is_some (stored_key (store_of image) entry (fields_said words.now)) ≡ true) → IfDamaged result (λ _. (F.told folder.old).files ≡ None) }
+    ensures untold { ChecksPass result (F.told folder.old) files.now (λ image. has_stored_key image entry words.now ≡ true) }
 {
     let key = &mut name[..words.key_len as usize];
     read_key(folder, files, entry, words, key)?;
@@ -259,8 +249,8 @@ fn load_streams<F: Folder>(
     requires placed { IsPlaced files.now entry words.now.key_len words.now.long_key }
     requires short { words.now.key_len ≤ most_key }
     requires room { length name.now ≡ most_key }
-    ensures verdict { IfOk result (λ verdict. ForSome (F.told folder.old).files (λ image. (dirty : ℕ) (stored : List ℕ) → Agrees files.now image → words.now.key_len ≡ length stored → words.now.hash ≡ hash_of stored → (words.now.flags ≡ child → stored ≡ take words.now.key_len name.now) → IsVerdict (loading.load_streams (store_of image) node entry dirty (fields_said words.now) stored) verdict)) }
-    ensures named { IfOk result (λ verdict. ForSome (F.told folder.old).files (λ image. Agrees files.now image → (words.now.flags ≡ child → IsKeyInPrefix image entry words.now name.now) → IsNameInPrefix image verdict name.now)) }
+    ensures verdict { IfOk result (λ verdict. ForSome (F.told folder.old).files (JudgesStreams files.now node entry words.now name.now verdict)) }
+    ensures named { IfOk result (λ verdict. WhereAgrees (F.told folder.old) files.now (NamesPart entry words.now name.now verdict)) }
     ensures readable { IfOk result (IsReadableIf files.now) }
     ensures reads { ReadsOnly F.told F.faults folder.old folder.new (IfDevice result) }
     ensures short { IfDamaged result (IsCutRead files.now (F.told folder.old)) }

@@ -1,15 +1,10 @@
 // The reason `Parent`: no kept record is the parent of a part.
-ghost use Rattle.std.specs.Prelude.{◌≡◌, List, ℕ, IfOk, None, Ok, true};
-ghost use Rattle.std.specs.Option.{ForSome};
+ghost use Rattle.std.specs.Prelude.{IfOk};
 ghost use Rattle.spec_image.specs.Told.{ReadsOnly};
-ghost use Rattle.spec_folder.specs.Audit as audit;
-ghost use Rattle.spec_folder.specs.Loads as shown;
-ghost use Rattle.spec_folder.specs.View.{store_of};
 ghost use Rattle.blk_io.specs.Faults.{IfDamaged, IfDevice};
-ghost use Rattle.blk_disk.specs.Tables.{Agrees};
-ghost use Rattle.blk_verdict.specs.Kept.{AreShown, HaveKeys, IsKeptInOrder, IsLoadedFrom};
-ghost use Rattle.blk_verdict.specs.PartNames.{IsNameOf};
+ghost use Rattle.blk_verdict.specs.Kept.{HaveKeys, IsKeptInOrder};
 ghost use Rattle.blk_verdict.specs.Reads.{IsCutRead};
+ghost use Rattle.blk_verdict.specs.VerdictClauses.{ChecksPass, LacksParent, SaysOrphan, WhereAgrees, WhereGiven};
 
 use crate::fitting::Sought;
 use crate::kept::KeptSoFar;
@@ -30,10 +25,10 @@ impl KeptSoFar {
         key: &[u8],
     ) -> Result<bool, Fault>
         requires order { IsKeptInOrder files.now self.now }
-        ensures orphan { IfOk result (λ orphan. ForSome (F.told folder.old).files (λ image. Agrees files.now image → (kept : List shown.Loaded) (given : shown.Loaded) → AreShown image kept self.now.kept.items → IsLoadedFrom image given loaded.now → IsNameOf image loaded.now key.now → orphan ≡ audit.is_orphan kept given)) }
+        ensures orphan { IfOk result (λ orphan. WhereGiven (F.told folder.old) files.now self.now loaded.now key.now (SaysOrphan orphan)) }
         ensures reads { ReadsOnly F.told F.faults folder.old folder.new (IfDevice result) }
         ensures short { IfDamaged result (IsCutRead files.now (F.told folder.old)) }
-        ensures untold { ForSome (F.told folder.old).files (Agrees files.now) → ForSome (F.told folder.old).files (λ image. HaveKeys image self.now.kept.items) → IfDamaged result (λ _. (F.told folder.old).files ≡ None) }
+        ensures untold { ChecksPass result (F.told folder.old) files.now (λ image. HaveKeys image self.now.kept.items) }
     {
         match loaded.role {
             Role::Plain => Ok(false),
@@ -50,10 +45,10 @@ impl KeptSoFar {
         key: &[u8],
     ) -> Result<bool, Fault>
         requires order { IsKeptInOrder files.now self.now }
-        ensures orphan { IfOk result (λ orphan. ForSome (F.told folder.old).files (λ image. Agrees files.now image → (kept : List shown.Loaded) (given : shown.Loaded) (node : ℕ) → AreShown image kept self.now.kept.items → shown.load (store_of image) shown.held_rule node ≡ Ok given → key.now ≡ given.key → shown.is_part given ≡ true → orphan ≡ audit.is_orphan kept given)) }
+        ensures orphan { IfOk result (λ orphan. WhereAgrees (F.told folder.old) files.now (LacksParent self.now key.now orphan)) }
         ensures reads { ReadsOnly F.told F.faults folder.old folder.new (IfDevice result) }
         ensures short { IfDamaged result (IsCutRead files.now (F.told folder.old)) }
-        ensures untold { ForSome (F.told folder.old).files (Agrees files.now) → ForSome (F.told folder.old).files (λ image. HaveKeys image self.now.kept.items) → IfDamaged result (λ _. (F.told folder.old).files ≡ None) }
+        ensures untold { ChecksPass result (F.told folder.old) files.now (λ image. HaveKeys image self.now.kept.items) }
     {
         let Some(name) = read_child_name(key) else {
             return Ok(true);

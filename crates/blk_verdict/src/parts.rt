@@ -1,14 +1,14 @@
 // The bits of a parent's index.
-ghost use Rattle.std.specs.Prelude.{◌≡◌, ◌<◌, List, ℕ, IfOk, None, Some, true};
+ghost use Rattle.std.specs.Prelude.{◌≡◌, ◌<◌, IfOk, None, true};
 ghost use Rattle.std.specs.Option.{ForSome};
 ghost use Rattle.spec_image.specs.Told.{ReadsOnly};
 ghost use Rattle.blk_model.specs.Sizes.{part_count};
-ghost use Rattle.spec_format.specs.SparseIndex.{ParentIndex, parent_index_length, read_parent_index};
-ghost use Rattle.spec_folder.specs.View.{stored_at};
+ghost use Rattle.spec_format.specs.SparseIndex.{parent_index_length};
 ghost use Rattle.blk_io.specs.Faults.{IfDamaged, IfDevice};
 ghost use Rattle.blk_disk.specs.Tables.{Agrees};
 ghost use Rattle.blk_entry.specs.Keys.{stores};
 ghost use Rattle.blk_verdict.specs.Reads.{IsCutRead};
+ghost use Rattle.blk_verdict.specs.VerdictClauses.{HasPartBit};
 
 use blk_addr::Addr;
 use blk_disk::BlockFiles;
@@ -28,7 +28,7 @@ pub fn has_part<F: Folder>(
 ) -> Result<bool, Fault>
     requires stored { stores files.now parent_index_length word ≡ true }
     requires part { part < part_count }
-    ensures bit { IfOk result (λ has. ForSome (F.told folder.old).files (λ image. (bytes : List ℕ) (index : ParentIndex) → stored_at image parent_index_length word ≡ Some bytes → read_parent_index bytes ≡ Some index → has ≡ index.has_part part)) }
+    ensures bit { IfOk result (λ has. ForSome (F.told folder.old).files (HasPartBit word part has)) }
     ensures reads { ReadsOnly F.told F.faults folder.old folder.new (IfDevice result) }
     ensures short { IfDamaged result (IsCutRead files.now (F.told folder.old)) }
     ensures untold { ForSome (F.told folder.old).files (Agrees files.now) → IfDamaged result (λ _. (F.told folder.old).files ≡ None) }

@@ -1,21 +1,15 @@
 // The two passes over the walked nodes.
-ghost use Rattle.std.specs.Prelude.{◌≡◌, ◌++◌, ◌∷◌, [], ℕ, List, IfOk, None, OnOk, Some, length, slice_get, true};
+ghost use Rattle.std.specs.Prelude.{◌≡◌, ◌++◌, ◌∷◌, [], IfOk, OnOk, length};
 ghost use Rattle.std.specs.Option.{ForSome};
 ghost use Rattle.spec_image.specs.Told.{ReadsOnly};
-ghost use Rattle.spec_folder.specs.Audit as audit;
-ghost use Rattle.spec_format.specs.BlockFiles.{is_among};
-ghost use Rattle.spec_folder.specs.Loads.{held_rule};
-ghost use Rattle.spec_folder.specs.ListImages.{completed_walk};
-ghost use Rattle.spec_folder.specs.View.{store_of};
-ghost use Rattle.blk_disk.specs.Tables.{Agrees};
 ghost use Rattle.blk_entry.specs.Keys.{most_key};
 ghost use Rattle.blk_audit.specs.Faults.{IfScanDamaged, IfScanDevice};
 ghost use Rattle.blk_audit.specs.ReadLists.{AreListsOf};
-ghost use Rattle.blk_audit.specs.Walking.{nodes_walked};
-ghost use Rattle.blk_verdict.specs.Kept.{HaveKeys, IsKeptInOrder};
+ghost use Rattle.blk_verdict.specs.Kept.{IsKeptInOrder};
 ghost use Rattle.blk_verdict.specs.Passes as passing;
-ghost use Rattle.blk_verdict.specs.Passes.{AreTried, CanBeTried, IsAnswered, of_pass};
+ghost use Rattle.blk_verdict.specs.Passes.{CanBeTried};
 ghost use Rattle.blk_verdict.specs.Reads.{IsCutRead};
+ghost use Rattle.blk_verdict.specs.VerdictClauses.{AllAreAnswered, AllAreTried, KeepsKeysTried, ScanPasses, ScanPassesWhere, TriesAt, TriesPass, WhereRead};
 
 use crate::judging::judge_walked;
 use crate::kept::KeptSoFar;
@@ -58,15 +52,15 @@ pub fn judge_nodes<F: Folder>(
     files: &BlockFiles,
     lists: &Lists,
 ) -> Result<Judged, ScanFault>
-    ensures judged { IfOk result (λ judged. ForSome (F.told folder.old).files (λ image. Agrees files.now image → AreListsOf image lists.now → AreTried image (completed_walk image) (audit.tried (store_of image) (completed_walk image)) judged.kept.kept.items judged.tried.items)) }
+    ensures judged { IfOk result (λ judged. WhereRead (F.told folder.old) files.now lists.now (AllAreTried judged.kept judged.tried.items)) }
 
     // What came of each walked node is the verdict on it.
-    ensures answered { IfOk result (λ judged. ForSome (F.told folder.old).files (λ image. Agrees files.now image → AreListsOf image lists.now → (node : ℕ) → is_among (completed_walk image) node ≡ true → IsAnswered (completed_walk image) judged.tried.items node (audit.verdict_on (audit.judged (store_of image) held_rule (completed_walk image)) node))) }
+    ensures answered { IfOk result (λ judged. WhereRead (F.told folder.old) files.now lists.now (AllAreAnswered judged.tried.items)) }
 
     ensures order { IfOk result (λ judged. IsKeptInOrder files.now judged.kept) }
     ensures reads { ReadsOnly F.told F.faults folder.old folder.new (IfScanDevice result) }
     ensures short { IfScanDamaged result (IsCutRead files.now (F.told folder.old)) }
-    ensures untold { ForSome (F.told folder.old).files (Agrees files.now) → ForSome (F.told folder.old).files (λ image. AreListsOf image lists.now) → IfScanDamaged result (λ _. (F.told folder.old).files ≡ None) }
+    ensures untold { ScanPasses result (F.told folder.old) files.now (λ image. AreListsOf image lists.now) }
 {
     let mut kept = KeptSoFar::none(alloc);
     let mut tried = Vec::new(alloc);
@@ -93,12 +87,12 @@ pub(crate) fn try_pass<F: Folder>(
 ) -> Result<(), ScanFault>
     requires order { IsKeptInOrder files.now kept.old }
     requires room { length name.old ≡ most_key }
-    ensures tried { OnOk result (ForSome (F.told folder.old).files (λ image. Agrees files.now image → AreListsOf image lists.now → (before : List ℕ) → AreTried image (nodes_walked lists.now.walked) before kept.old.kept.items tried.old.items → AreTried image (nodes_walked lists.now.walked) (before ++ of_pass (store_of image) children (nodes_walked lists.now.walked)) kept.new.kept.items tried.new.items)) }
-    ensures keys { OnOk result (ForSome (F.told folder.old).files (λ image. CanBeTried files.now lists.now kept.old.kept.items image → HaveKeys image kept.new.kept.items)) }
+    ensures tried { OnOk result (TriesPass (F.told folder.old) files.now lists.now children kept.old tried.old.items kept.new tried.new.items) }
+    ensures keys { OnOk result (ForSome (F.told folder.old).files (KeepsKeysTried files.now lists.now kept.old kept.new)) }
     ensures order { OnOk result (IsKeptInOrder files.now kept.new) }
     ensures reads { ReadsOnly F.told F.faults folder.old folder.new (IfScanDevice result) }
     ensures short { IfScanDamaged result (IsCutRead files.now (F.told folder.old)) }
-    ensures untold { ForSome (F.told folder.old).files (CanBeTried files.now lists.now kept.old.kept.items) → IfScanDamaged result (λ _. (F.told folder.old).files ≡ None) }
+    ensures untold { ScanPassesWhere result (F.told folder.old) (CanBeTried files.now lists.now kept.old.kept.items) }
 {
     for i in 0..lists.walked.count() {
         try_at(folder, files, lists, i, children, kept, tried, name)?;
@@ -119,12 +113,12 @@ fn try_at<F: Folder>(
 ) -> Result<(), ScanFault>
     requires order { IsKeptInOrder files.now kept.old }
     requires room { length name.old ≡ most_key }
-    ensures tried { OnOk result (ForSome (F.told folder.old).files (λ image. Agrees files.now image → AreListsOf image lists.now → (before : List ℕ) (w : ℕ) → slice_get (nodes_walked lists.now.walked) i ≡ Some w → AreTried image (nodes_walked lists.now.walked) before kept.old.kept.items tried.old.items → AreTried image (nodes_walked lists.now.walked) (before ++ of_pass (store_of image) children (w ∷ [])) kept.new.kept.items tried.new.items)) }
-    ensures keys { OnOk result (ForSome (F.told folder.old).files (λ image. CanBeTried files.now lists.now kept.old.kept.items image → HaveKeys image kept.new.kept.items)) }
+    ensures tried { OnOk result (TriesAt (F.told folder.old) files.now lists.now i children kept.old tried.old.items kept.new tried.new.items) }
+    ensures keys { OnOk result (ForSome (F.told folder.old).files (KeepsKeysTried files.now lists.now kept.old kept.new)) }
     ensures order { OnOk result (IsKeptInOrder files.now kept.new) }
     ensures reads { ReadsOnly F.told F.faults folder.old folder.new (IfScanDevice result) }
     ensures short { IfScanDamaged result (IsCutRead files.now (F.told folder.old)) }
-    ensures untold { ForSome (F.told folder.old).files (CanBeTried files.now lists.now kept.old.kept.items) → IfScanDamaged result (λ _. (F.told folder.old).files ≡ None) }
+    ensures untold { ScanPassesWhere result (F.told folder.old) (CanBeTried files.now lists.now kept.old.kept.items) }
 {
     let Some(here) = lists.node(i) else {
         return Ok(());

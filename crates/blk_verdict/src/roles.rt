@@ -1,22 +1,15 @@
 // What its flags and its index make a record.
-ghost use Rattle.std.specs.Prelude.{◌≡◌, ◌≤◌, ◌<◌, ◌==◌, ◌&&◌, if◌then◌else◌, ℕ, List, IfOk, None, OnOk, Some, length, slice_index, take, true};
+ghost use Rattle.std.specs.Prelude.{◌≡◌, ◌≤◌, ◌<◌, ◌==◌, if◌then◌else◌, IfOk, None, OnOk, Some, length, slice_index, true};
 ghost use Rattle.std.specs.Option.{ForSome};
 ghost use Rattle.spec_image.specs.Told.{ReadsOnly};
-ghost use Rattle.spec_format.specs.Records.{child};
 ghost use Rattle.spec_format.specs.Storage.{largest_in_4k};
-ghost use Rattle.spec_folder.specs.Entries as entries;
-ghost use Rattle.spec_folder.specs.Entries.{stored_streams};
-ghost use Rattle.spec_folder.specs.View.{store_of, stored_at};
 ghost use Rattle.blk_io.specs.Faults.{IfDamaged, IfDevice};
 ghost use Rattle.blk_disk.specs.Tables.{Agrees};
 ghost use Rattle.blk_entry.specs.Keys.{stores};
 ghost use Rattle.blk_verdict.specs.Readable.{HasIndexIf};
 ghost use Rattle.blk_verdict.specs.Reads.{IsCutRead};
-ghost use Rattle.blk_audit.specs.Records.{fields_said};
-ghost use Rattle.blk_verdict.specs.Roles.{IsRoleIf};
 ghost use Rattle.blk_verdict.specs.declared.roles.Role.TheVariants as role;
-ghost use Rattle.blk_ranges.specs.PartMaps.{index_of, map_signature};
-ghost use Rattle.std.specs.Int.{cast_unsigned, w64};
+ghost use Rattle.blk_verdict.specs.VerdictClauses.{IsFrontOf, IsParentRoleOf, IsPartRoleOf, IsRoleOf, part_if_covered};
 
 use crate::covers::{is_covered, is_named};
 use blk_addr::Addr;
@@ -52,7 +45,7 @@ pub(crate) fn read_role<F: Folder>(
     key: &[u8],
 ) -> Result<Option<Role>, Fault>
     requires stored { stores files.now (slice_index words.now.sizes 2) (slice_index words.now.addrs 2) ≡ true }
-    ensures role { IfOk result (λ role. ForSome (F.told folder.old).files (λ image. (stored : List ℕ) (streams : List (List ℕ)) → (words.now.flags ≡ child → stored ≡ key.now) → stored_streams (store_of image) (fields_said words.now) ≡ Some streams → IsRoleIf stored (entries.role_of (fields_said words.now) stored streams) role)) }
+    ensures role { IfOk result (λ role. ForSome (F.told folder.old).files (IsRoleOf words.now key.now role)) }
     ensures index { IfOk result (HasIndexIf files.now words.now.sizes words.now.addrs) }
     ensures reads { ReadsOnly F.told F.faults folder.old folder.new (IfDevice result) }
     ensures short { IfDamaged result (IsCutRead files.now (F.told folder.old)) }
@@ -74,7 +67,7 @@ fn parent_role<F: Folder>(
     words: &RecordWords,
 ) -> Result<Option<Role>, Fault>
     requires stored { stores files.now (slice_index words.now.sizes 2) (slice_index words.now.addrs 2) ≡ true }
-    ensures role { IfOk result (λ role. ForSome (F.told folder.old).files (λ image. (key : List ℕ) (streams : List (List ℕ)) → stored_streams (store_of image) (fields_said words.now) ≡ Some streams → IsRoleIf key (entries.parent_role (fields_said words.now) streams) role)) }
+    ensures role { IfOk result (λ role. ForSome (F.told folder.old).files (IsParentRoleOf words.now role)) }
     ensures index { IfOk result (HasIndexIf files.now words.now.sizes words.now.addrs) }
     ensures reads { ReadsOnly F.told F.faults folder.old folder.new (IfDevice result) }
     ensures short { IfDamaged result (IsCutRead files.now (F.told folder.old)) }
@@ -110,7 +103,7 @@ fn part_role<F: Folder>(
     key: &[u8],
 ) -> Result<Option<Role>, Fault>
     requires stored { stores files.now (slice_index words.now.sizes 2) (slice_index words.now.addrs 2) ≡ true }
-    ensures role { IfOk result (λ role. ForSome (F.told folder.old).files (λ image. (streams : List (List ℕ)) → stored_streams (store_of image) (fields_said words.now) ≡ Some streams → IsRoleIf key.now (entries.part_role key.now streams) role)) }
+    ensures role { IfOk result (λ role. ForSome (F.told folder.old).files (IsPartRoleOf words.now key.now role)) }
     ensures index { IfOk result (HasIndexIf files.now words.now.sizes words.now.addrs) }
     ensures reads { ReadsOnly F.told F.faults folder.old folder.new (IfDevice result) }
     ensures short { IfDamaged result (IsCutRead files.now (F.told folder.old)) }
@@ -132,7 +125,7 @@ fn part_role<F: Folder>(
 
 // A part of this name, where its map goes with the name and so many bytes of data.
 fn part_with(map: &PartMap, name: ChildName, size: u32) -> Option<Role>
-    ensures { result ≡ (if (map_signature map.now == cast_unsigned w64 name.signature) && (map.now.key_len == name.key_len) && entries.is_covered (index_of map.now) size then Some (role.Part name) else None) }
+    ensures { result ≡ part_if_covered map.now name size }
 {
     if is_named(map, &name) && is_covered(map, size) {
         Some(Role::Part(name))
@@ -153,7 +146,7 @@ fn read_front<F: Folder>(
     requires blocks { size ≤ largest_in_4k }
     requires stored { stores files.now size word ≡ true }
     requires inside { length out.old ≤ size }
-    ensures front { OnOk result (ForSome (F.told folder.old).files (λ image. (bytes : List ℕ) → stored_at image size word ≡ Some bytes → out.new ≡ take (length out.old) bytes)) }
+    ensures front { OnOk result (ForSome (F.told folder.old).files (IsFrontOf size word out.old out.new)) }
     ensures reads { ReadsOnly F.told F.faults folder.old folder.new (IfDevice result) }
     ensures short { IfDamaged result (IsCutRead files.now (F.told folder.old)) }
     ensures untold { ForSome (F.told folder.old).files (Agrees files.now) → IfDamaged result (λ _. (F.told folder.old).files ≡ None) }

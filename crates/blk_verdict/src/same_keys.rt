@@ -1,14 +1,13 @@
 // Whether a record that is loaded has a key.
-ghost use Rattle.std.specs.Prelude.{◌≡◌, ◌≤◌, List, ℕ, IfOk, None, OnOk, length};
+ghost use Rattle.std.specs.Prelude.{◌≡◌, ◌≤◌, List, ℕ, IfOk, OnOk, length};
 ghost use Rattle.std.specs.Option.{ForSome};
-ghost use Rattle.std.specs.Str.{bytes_eq};
 ghost use Rattle.spec_image.specs.Told.{ReadsOnly};
 ghost use Rattle.blk_io.specs.Faults.{IfDamaged, IfDevice};
-ghost use Rattle.blk_disk.specs.Tables.{Agrees};
 ghost use Rattle.blk_entry.specs.Keys.{most_key};
 ghost use Rattle.blk_verdict.specs.Keyed.{HasItsKey, IsKeyOf, words_kept};
 ghost use Rattle.blk_verdict.specs.Readable.{IsReadable};
 ghost use Rattle.blk_verdict.specs.Reads.{IsCutRead};
+ghost use Rattle.blk_verdict.specs.VerdictClauses.{ChecksPass, IsItsKey, IsItsKeyBy};
 
 use crate::keys::read_key;
 use crate::loading::Loaded;
@@ -28,10 +27,10 @@ pub fn has_this_key<F: Folder>(
     key: &[u8],
 ) -> Result<bool, Fault>
     requires readable { IsReadable files.now loaded.now }
-    ensures same { IfOk result (λ same. ForSome (F.told folder.old).files (λ image. (stored : List ℕ) → Agrees files.now image → IsKeyOf image loaded.now stored → same ≡ bytes_eq stored key.now)) }
+    ensures same { IfOk result (λ same. ForSome (F.told folder.old).files (IsItsKeyBy files.now loaded.now key.now same)) }
     ensures reads { ReadsOnly F.told F.faults folder.old folder.new (IfDevice result) }
     ensures short { IfDamaged result (IsCutRead files.now (F.told folder.old)) }
-    ensures untold { ForSome (F.told folder.old).files (Agrees files.now) → ForSome (F.told folder.old).files (λ image. HasItsKey image loaded.now) → IfDamaged result (λ _. (F.told folder.old).files ≡ None) }
+    ensures untold { ChecksPass result (F.told folder.old) files.now (λ image. HasItsKey image loaded.now) }
 {
     if loaded.key_len as usize != key.len() {
         return Ok(false);
@@ -52,10 +51,10 @@ fn is_stored_key<F: Folder>(
     requires readable { IsReadable files.now loaded.now }
     requires len { loaded.now.key_len ≡ length key.now }
     requires short { length key.now ≤ most_key }
-    ensures same { IfOk result (λ same. ForSome (F.told folder.old).files (λ image. (stored : List ℕ) → IsKeyOf image loaded.now stored → same ≡ bytes_eq stored key.now)) }
+    ensures same { IfOk result (λ same. ForSome (F.told folder.old).files (IsItsKey loaded.now key.now same)) }
     ensures reads { ReadsOnly F.told F.faults folder.old folder.new (IfDevice result) }
     ensures short { IfDamaged result (IsCutRead files.now (F.told folder.old)) }
-    ensures untold { ForSome (F.told folder.old).files (Agrees files.now) → ForSome (F.told folder.old).files (λ image. HasItsKey image loaded.now) → IfDamaged result (λ _. (F.told folder.old).files ≡ None) }
+    ensures untold { ChecksPass result (F.told folder.old) files.now (λ image. HasItsKey image loaded.now) }
 {
     let mut buffer = [0u8; LONGEST_NAME as usize];
     let stored = &mut buffer[..key.len()];
@@ -75,7 +74,7 @@ pub(crate) fn read_key_of<F: Folder>(
     ensures key { OnOk result (ForSome (F.told folder.old).files (λ image. (key : List ℕ) → IsKeyOf image loaded.now key → out.new ≡ key)) }
     ensures reads { ReadsOnly F.told F.faults folder.old folder.new (IfDevice result) }
     ensures short { IfDamaged result (IsCutRead files.now (F.told folder.old)) }
-    ensures untold { ForSome (F.told folder.old).files (Agrees files.now) → ForSome (F.told folder.old).files (λ image. HasItsKey image loaded.now) → IfDamaged result (λ _. (F.told folder.old).files ≡ None) }
+    ensures untold { ChecksPass result (F.told folder.old) files.now (λ image. HasItsKey image loaded.now) }
 {
     let words = words_of(loaded);
     read_key(folder, files, loaded.entry, &words, out)

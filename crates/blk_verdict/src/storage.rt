@@ -5,8 +5,8 @@ ghost use Rattle.spec_image.specs.Image.{External as outside, length_of};
 ghost use Rattle.spec_image.specs.Told.{ReadsOnly};
 ghost use Rattle.spec_format.specs.Address.{external, external_number, kind_of};
 ghost use Rattle.spec_folder.specs.View.{stored_at};
-ghost use Rattle.blk_disk.specs.Tables.{Agrees};
 ghost use Rattle.blk_entry.specs.Keys as keys;
+ghost use Rattle.blk_verdict.specs.VerdictClauses.{WhereAgrees};
 
 use blk_addr::{Addr, Kind};
 use blk_disk::{BlockFiles, file_of};
@@ -23,7 +23,7 @@ pub(crate) fn is_stored<F: Folder>(
     size: u32,
     word: u32,
 ) -> Result<bool, Failed>
-    ensures stored { IfOk result (λ there. ForSome (F.told folder.old).files (λ image. Agrees files.now image → there ≡ is_some (stored_at image size word))) }
+    ensures stored { IfOk result (λ there. WhereAgrees (F.told folder.old) files.now (λ image. there ≡ is_some (stored_at image size word))) }
     ensures stores { IfOk result (λ there. IsTrue there → keys.stores files.now size word ≡ true) }
     ensures reads { ReadsOnly F.told F.faults folder.old folder.new (OnErr result) }
 {

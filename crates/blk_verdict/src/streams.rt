@@ -1,13 +1,11 @@
 // The streams of a record that is judged.
-ghost use Rattle.std.specs.Prelude.{◌≡◌, IfOk, IsTrue, OnErr, is_some, true, slice_index};
+ghost use Rattle.std.specs.Prelude.{◌≡◌, IfOk, IsTrue, OnErr, true, slice_index};
 ghost use Rattle.std.specs.Option.{ForSome};
 ghost use Rattle.spec_image.specs.Told.{ReadsOnly};
-ghost use Rattle.spec_folder.specs.Entries.{stored_streams};
-ghost use Rattle.spec_folder.specs.View.{store_of};
 ghost use Rattle.blk_disk.specs.Tables.{Agrees};
 ghost use Rattle.blk_entry.specs.Keys.{stores};
-ghost use Rattle.blk_audit.specs.Records.{fields_said};
 ghost use Rattle.blk_verdict.specs.Streams.{is_stream};
+ghost use Rattle.blk_verdict.specs.VerdictClauses.{WhereAgrees, has_stored_streams};
 
 use crate::storage::is_stored;
 use blk_audit::RecordWords;
@@ -22,7 +20,7 @@ pub(crate) fn has_streams<F: Folder>(
     files: &BlockFiles,
     words: &RecordWords,
 ) -> Result<bool, Failed>
-    ensures streams { IfOk result (λ has. ForSome (F.told folder.old).files (λ image. Agrees files.now image → has ≡ is_some (stored_streams (store_of image) (fields_said words.now)))) }
+    ensures streams { IfOk result (λ has. WhereAgrees (F.told folder.old) files.now (λ image. has ≡ has_stored_streams image words.now)) }
     ensures stores { IfOk result (λ has. IsTrue has → stores files.now (slice_index words.now.sizes 2) (slice_index words.now.addrs 2) ≡ true) }
     ensures reads { ReadsOnly F.told F.faults folder.old folder.new (OnErr result) }
 {

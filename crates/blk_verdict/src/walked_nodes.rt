@@ -4,18 +4,13 @@ ghost use Rattle.std.specs.Option.{ForSome};
 ghost use Rattle.spec_image.specs.Told.{ReadsOnly};
 ghost use Rattle.spec_format.specs.Records.{child};
 ghost use Rattle.blk_io.specs.Faults.{IfDamaged, IfDevice};
-ghost use Rattle.spec_folder.specs.Audit as audit;
-ghost use Rattle.spec_folder.specs.Loads as shown;
-ghost use Rattle.spec_folder.specs.Loads.{held_rule};
-ghost use Rattle.spec_folder.specs.View.{store_of};
 ghost use Rattle.blk_disk.specs.Tables.{Agrees};
 ghost use Rattle.blk_audit.specs.Faults.{IsRecordDamage};
-ghost use Rattle.blk_audit.specs.ReadLists.{AreListsOf, IsSaidAt};
 ghost use Rattle.blk_entry.specs.Keys.{most_key};
 ghost use Rattle.blk_verdict.specs.PartNames.{IsNameInPrefix};
 ghost use Rattle.blk_verdict.specs.Readable.{IsReadableIf};
 ghost use Rattle.blk_verdict.specs.Reads.{IsCutRead};
-ghost use Rattle.blk_verdict.specs.Verdicts.{IsVerdict};
+ghost use Rattle.blk_verdict.specs.VerdictClauses.{IsVerdictOn, SaysChild, WhereNode};
 
 use crate::loading::{Verdict, load_words};
 use crate::reason::Reason;
@@ -38,7 +33,7 @@ pub fn load_walked<F: Folder>(
     name: &mut [u8],
 ) -> Result<Verdict, Fault>
     requires room { length name.old ≡ most_key }
-    ensures verdict { IfOk result (λ verdict. ForSome (F.told folder.old).files (λ image. Agrees files.now image → AreListsOf image lists.now → IsSaidAt image node.now → IsVerdict (shown.load (store_of image) held_rule node.now.addr) verdict)) }
+    ensures verdict { IfOk result (λ verdict. WhereNode (F.told folder.old) files.now lists.now node.now (IsVerdictOn node.now.addr verdict)) }
     ensures named { IfOk result (λ verdict. ForSome (F.told folder.old).files (λ image. Agrees files.now image → IsNameInPrefix image verdict name.new)) }
     ensures readable { IfOk result (IsReadableIf files.now) }
     ensures reads { ReadsOnly F.told F.faults folder.old folder.new (IfDevice result) }
@@ -63,7 +58,7 @@ pub fn is_child<F: Folder>(
     lists: &Lists,
     node: &WalkedNode,
 ) -> Result<bool, Fault>
-    ensures child { IfOk result (λ is. ForSome (F.told folder.old).files (λ image. Agrees files.now image → AreListsOf image lists.now → IsSaidAt image node.now → is ≡ audit.is_child (store_of image) node.now.addr)) }
+    ensures child { IfOk result (λ is. WhereNode (F.told folder.old) files.now lists.now node.now (SaysChild node.now.addr is)) }
     ensures reads { ReadsOnly F.told F.faults folder.old folder.new (IfDevice result) }
     ensures damaged { IfDamaged result (IsRecordDamage files.now (F.told folder.new)) }
     ensures untold { ForSome (F.told folder.new).files (Agrees files.now) → IfDamaged result (λ _. (F.told folder.new).files ≡ None) }
