@@ -4,3 +4,4 @@ pub mod RoomLaws
 pub mod RoomPrinting
 pub mod EvictingGroups
 pub mod ListPlaces
+pub mod EvictionCalls

@@ -10,15 +10,21 @@ use Rattle.blk_model.specs.State.{State}
 use Rattle.spec_folder.specs.Layout.{Layout, nodes_of}
 use Rattle.spec_folder.specs.ListImages.{HasListAtRest}
 use Rattle.spec_folder.specs.Loads.{Loaded}
-use Rattle.blk_lru.specs.Lists.{first_node_of}
+use Rattle.blk_lru.specs.Lists.{first_node_of, last_node_of}
 use Rattle.blk_evict.specs.declared.list_places.Unpinned.{Unpinned}
 use Rattle.blk_evict.specs.RoomLaws.{AreAllPinned, IsLastUnpinned, MayGo}
+use Rattle.blk_disk.specs.declared.tables.BlockFiles.{BlockFiles}
+use Rattle.blk_disk.specs.Tables.{Agrees}
 
 -- the list is idle, and has the nodes `front` before the node `behind`, or before its end where that is None
 pub record AreInPrefix (front : List ℕ) (behind : Option ℕ) (image : Image) : Type 0 where
   pub rest : List ℕ
   pub list : HasListAtRest (front ++ rest) image
   pub next : behind ≡ first_node_of rest
+
+-- `node` is the last of the nodes of the list before the node `behind`, or None where there are none
+abbrev pub IsNodeBefore : BlockFiles → (behind node : Option ℕ) → Image → Type 0
+IsNodeBefore files behind node image = Agrees files image → (front : List ℕ) → AreInPrefix front behind image → node ≡ last_node_of front
 
 -- `behind` is a node of the list, which is idle, or None for its end
 abbrev pub IsPlaceInList : Option ℕ → Image → Type 0

@@ -15,11 +15,13 @@ use Rattle.spec_folder.specs.Loads.{Loaded}
 use Rattle.spec_folder.specs.View.{entry_at}
 use Rattle.blk_disk.specs.declared.tables.BlockFiles.{BlockFiles}
 use Rattle.blk_disk.specs.Damages.{IsNodeWordDamage}
-use Rattle.blk_disk.specs.Tables.{is_record_among}
+use Rattle.blk_disk.specs.Tables.{is_record_among, Agrees, is_node_among}
 use Rattle.blk_entry.specs.Keys.{IsHeadDamage, node_place}
 use Rattle.blk_chain.specs.Finding.{IsSearchDamage}
 use Rattle.law_state.specs.Keeping.{KeepsUncounted}
 use Rattle.blk_evict.specs.declared.looking.Live.{Live}
+use Rattle.std.specs.Option.{ForSome}
+use Rattle.blk_object.specs.Owning.{LoadsSomeWith}
 
 -- Costs.
 
@@ -46,12 +48,26 @@ abbrev pub IsLive : State → Layout → List ℕ → Option Live → Type 0
 IsLive state layout key None = live_with state key ≡ None
 IsLive state layout key (Some live) = IsLiveAt state layout key live
 
+-- the answer of a search is right for whatever state the folder keeps (but for the counters)
+abbrev pub IsLiveOfKept : (key : List ℕ) → Option Live → Image → Type 0
+IsLiveOfKept key answer image = (state : State) (layout : Layout) (unlinked : List ℕ) → KeepsUncounted state layout unlinked image → IsLive state layout key answer
+
 -- the folder keeps some state (but for the counters)
 pub record KeepsSomeState (image : Image) : Type 0 where
   pub state : State
   pub layout : Layout
   pub unlinked : List ℕ
   pub kept : KeepsUncounted state layout unlinked image
+
+-- Records.
+
+-- where the table of block files agrees with the folder, and something is loaded that has its record at address `entry`, Q holds
+abbrev pub WhereLoads : Told → BlockFiles → (entry : ℕ) → (Q : Type 0) → Type 0
+WhereLoads told files entry Q = ForSome told.files (Agrees files) → ForSome told.files (LoadsSomeWith entry) → Q
+
+-- the record names a valid node
+abbrev pub NamesNode : BlockFiles → (entry : ℕ) → Image → Type 0
+NamesNode files entry image = is_node_among files (entry_at image entry).rankings_node ≡ true
 
 -- Failed checks.
 

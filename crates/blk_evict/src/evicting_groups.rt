@@ -1,14 +1,11 @@
 // An eviction unit is removed from a folder, and printed.
-ghost use Rattle.std.specs.Prelude.{◌≡◌, ◌≤◌, ◌<◌, ◌^◌, ◌+◌, [], ◌∷◌, All, IfOk, IfSome, IsTrue, None, OnOk, length, true};
+ghost use Rattle.std.specs.Prelude.{◌≡◌, ◌≤◌, ◌<◌, ◌^◌, ◌+◌, All, IfOk, IfSome, IsTrue, OnOk, length, true};
 ghost use Rattle.std.specs.Option.{ForSome};
-ghost use Rattle.spec_image.specs.Told.{Passes, MayWrite, ReadsOnly};
+ghost use Rattle.spec_image.specs.Told.{MayWrite, ReadsOnly};
 ghost use Rattle.blk_io.specs.Faults.{IfDamaged, IfDevice};
-ghost use Rattle.blk_io.specs.Streams.{Appends, GoesOn};
-ghost use Rattle.blk_model.specs.Effects.{doomed};
+ghost use Rattle.blk_io.specs.Streams.{GoesOn};
 ghost use Rattle.blk_model.specs.Refusals.{no_key};
-ghost use Rattle.blk_model.specs.Room.{parts_among, without};
 ghost use Rattle.blk_model.specs.Sizes.{longest_key};
-ghost use Rattle.blk_script.specs.Reply.{evicted_text};
 ghost use Rattle.spec_format.specs.Address.{blocks_256, kind_of};
 ghost use Rattle.spec_format.specs.Names.{IsName, longest_name};
 ghost use Rattle.blk_ranges.specs.ChildNames.{name_within};
@@ -18,11 +15,11 @@ ghost use Rattle.law_state.specs.Changes.{SameSession};
 ghost use Rattle.blk_object.specs.FailedChecks.{IsFailedCheck};
 ghost use Rattle.blk_object.specs.Freeing.{IsPlaceAmong};
 ghost use Rattle.blk_object.specs.Removing.{LiesBehind};
-ghost use Rattle.blk_object.specs.RemovingObjects.{FindsEither, IsOwnedBy};
-ghost use Rattle.blk_evict.specs.EvictingGroups.{ForEachGoing, ForEachListed, ForEachOfKind, IsGroupOut, IsItemName, alone_kind, text_of_parts};
+ghost use Rattle.blk_evict.specs.EvictingGroups.{IsItemName, alone_kind};
 ghost use Rattle.blk_evict.specs.NameBuffer.{name_buffer_len};
-ghost use Rattle.blk_evict.specs.RoomPrinting.{FailsWhereItRose, PrintsUnlessFailed};
-ghost use Rattle.blk_sparse.specs.Parents.{ForEachParent, IsGoneWhole, IsGroupTold};
+ghost use Rattle.blk_evict.specs.RoomPrinting.{FailsWhereItRose};
+ghost use Rattle.blk_object.specs.Calls.{OpaqueIfDamaged, EndsIn};
+ghost use Rattle.blk_evict.specs.EvictionCalls.{ForGoing, ForOfKind, ForOwned, WhereOwned, ForOwnedParent, TakesGroup, SaysGroup, FrontOfGroup, StopsGroup, ForParentAt, WhereParentAt, TakesParent, CountsParent, SaysParts, FrontOfParts, StopsParent, ForListed, WhereListed};
 
 use crate::item_names::{EntryKind, read_name};
 use crate::list_places::Unpinned;
@@ -54,15 +51,15 @@ pub fn evict_group<F: Folder, K: Sink>(
     requires node { IsTrue (is_node_among files.now found.now.node) }
     requires record_stands { IsTrue (is_record_among files.now found.now.entry) }
     requires is_open { ForSome (F.told folder.old).files (IsOpen files.now) }
-    ensures out { IfOk result (λ gone. ForSome (F.told folder.old).files (λ from. ForEachGoing found.now from (λ state layout group. ForSome (F.told folder.new).files (IsGroupOut state layout group gone from)))) }
-    ensures prints { OnOk result (ForSome (F.told folder.old).files (λ from. ForEachGoing found.now from (λ state layout group. PrintsUnlessFailed failed.old failed.new (K.written out.old) (K.written out.new) (evicted_text (group ∷ []))))) }
-    ensures stops { ForSome (F.told folder.old).files (λ from. ForEachGoing found.now from (λ state layout group. Passes (F.told folder.old) (F.told folder.new) (FindsEither state (without (group ∷ []) state)))) }
-    ensures front { ForSome (F.told folder.old).files (λ from. ForEachGoing found.now from (λ state layout group. Appends (K.written out.old) (K.written out.new) (evicted_text (group ∷ [])))) }
+    ensures out { IfOk result (λ gone. ForGoing (F.told folder.old) found.now (TakesGroup (F.told folder.new) gone)) }
+    ensures prints { OnOk result (ForGoing (F.told folder.old) found.now (SaysGroup failed.old failed.new K.written out.old out.new)) }
+    ensures stops { ForGoing (F.told folder.old) found.now (StopsGroup (F.told folder.old) (F.told folder.new)) }
+    ensures front { ForGoing (F.told folder.old) found.now (FrontOfGroup K.written out.old out.new) }
     ensures quiet { failed.old ≡ true → (failed.new ≡ true) × (K.written out.new ≡ K.written out.old) }
     ensures fails { FailsWhereItRose failed.old failed.new (K.faults out.old) (K.faults out.new) }
     ensures is_open { ForSome (F.told folder.new).files (IsOpen files.now) }
     ensures damaged { IfDamaged result (IsFailedCheck files.now (F.told folder.new)) }
-    ensures untold { ForSome (F.told folder.old).files (λ from. ForEachGoing found.now from (λ state layout group. IfDamaged result (λ _. (F.told folder.old).files ≡ None))) }
+    ensures untold { ForGoing (F.told folder.old) found.now (λ from state layout group. OpaqueIfDamaged result (F.told folder.old)) }
     ensures writes { MayWrite F.told F.faults folder.old folder.new (IfDevice result) }
     ensures sink_later { GoesOn K.is K.faults out.old out.new }
 {
@@ -97,15 +94,15 @@ fn evict_plain<F: Folder, K: Sink>(
     requires record_stands { IsTrue (is_record_among files.now found.now.entry) }
     requires places { All (IsPlaceAmong files.now) owned.now.places }
     requires is_open { ForSome (F.told folder.old).files (IsOpen files.now) }
-    ensures out { IfOk result (λ gone. ForSome (F.told folder.old).files (λ from. IsOwnedBy found.now.entry owned.now from → ForEachOfKind found.now EntryKind.Plain key.now from (λ state layout group. ForSome (F.told folder.new).files (IsGroupOut state layout group gone from)))) }
-    ensures prints { OnOk result (ForSome (F.told folder.old).files (λ from. ForEachOfKind found.now EntryKind.Plain key.now from (λ state layout group. PrintsUnlessFailed failed.old failed.new (K.written out.old) (K.written out.new) (evicted_text (group ∷ []))))) }
-    ensures stops { ForSome (F.told folder.old).files (λ from. IsOwnedBy found.now.entry owned.now from → ForEachOfKind found.now EntryKind.Plain key.now from (λ state layout group. Passes (F.told folder.old) (F.told folder.new) (FindsEither state (without (group ∷ []) state)))) }
-    ensures front { ForSome (F.told folder.old).files (λ from. ForEachOfKind found.now EntryKind.Plain key.now from (λ state layout group. Appends (K.written out.old) (K.written out.new) (evicted_text (group ∷ [])))) }
+    ensures out { IfOk result (λ gone. ForOwned (F.told folder.old) found.now owned.now EntryKind.Plain key.now (TakesGroup (F.told folder.new) gone)) }
+    ensures prints { OnOk result (ForOfKind (F.told folder.old) found.now EntryKind.Plain key.now (SaysGroup failed.old failed.new K.written out.old out.new)) }
+    ensures stops { ForOwned (F.told folder.old) found.now owned.now EntryKind.Plain key.now (StopsGroup (F.told folder.old) (F.told folder.new)) }
+    ensures front { ForOfKind (F.told folder.old) found.now EntryKind.Plain key.now (FrontOfGroup K.written out.old out.new) }
     ensures quiet { failed.old ≡ true → (failed.new ≡ true) × (K.written out.new ≡ K.written out.old) }
     ensures fails { FailsWhereItRose failed.old failed.new (K.faults out.old) (K.faults out.new) }
     ensures is_open { ForSome (F.told folder.new).files (IsOpen files.now) }
     ensures damaged { ForSome (F.told folder.old).files (IsItemName found.now.entry key.now) → IfDamaged result (IsFailedCheck files.now (F.told folder.new)) }
-    ensures untold { ForSome (F.told folder.old).files (λ from. IsOwnedBy found.now.entry owned.now from → ForEachOfKind found.now EntryKind.Plain key.now from (λ state layout group. IfDamaged result (λ _. (F.told folder.old).files ≡ None))) }
+    ensures untold { WhereOwned (F.told folder.old) found.now owned.now EntryKind.Plain key.now (λ from. OpaqueIfDamaged result (F.told folder.old)) }
     ensures writes { MayWrite F.told F.faults folder.old folder.new (IfDevice result) }
     ensures sink_later { GoesOn K.is K.faults out.old out.new }
 {
@@ -127,15 +124,15 @@ fn evict_part<F: Folder, K: Sink>(
     requires record_stands { IsTrue (is_record_among files.now found.now.entry) }
     requires places { All (IsPlaceAmong files.now) owned.now.places }
     requires is_open { ForSome (F.told folder.old).files (IsOpen files.now) }
-    ensures out { IfOk result (λ gone. ForSome (F.told folder.old).files (λ from. IsOwnedBy found.now.entry owned.now from → ForEachOfKind found.now EntryKind.Part name.now from (λ state layout group. ForSome (F.told folder.new).files (IsGroupOut state layout group gone from)))) }
-    ensures prints { OnOk result (ForSome (F.told folder.old).files (λ from. ForEachOfKind found.now EntryKind.Part name.now from (λ state layout group. PrintsUnlessFailed failed.old failed.new (K.written out.old) (K.written out.new) (evicted_text (group ∷ []))))) }
-    ensures stops { ForSome (F.told folder.old).files (λ from. IsOwnedBy found.now.entry owned.now from → ForEachOfKind found.now EntryKind.Part name.now from (λ state layout group. Passes (F.told folder.old) (F.told folder.new) (FindsEither state (without (group ∷ []) state)))) }
-    ensures front { ForSome (F.told folder.old).files (λ from. ForEachOfKind found.now EntryKind.Part name.now from (λ state layout group. Appends (K.written out.old) (K.written out.new) (evicted_text (group ∷ [])))) }
+    ensures out { IfOk result (λ gone. ForOwned (F.told folder.old) found.now owned.now EntryKind.Part name.now (TakesGroup (F.told folder.new) gone)) }
+    ensures prints { OnOk result (ForOfKind (F.told folder.old) found.now EntryKind.Part name.now (SaysGroup failed.old failed.new K.written out.old out.new)) }
+    ensures stops { ForOwned (F.told folder.old) found.now owned.now EntryKind.Part name.now (StopsGroup (F.told folder.old) (F.told folder.new)) }
+    ensures front { ForOfKind (F.told folder.old) found.now EntryKind.Part name.now (FrontOfGroup K.written out.old out.new) }
     ensures quiet { failed.old ≡ true → (failed.new ≡ true) × (K.written out.new ≡ K.written out.old) }
     ensures fails { FailsWhereItRose failed.old failed.new (K.faults out.old) (K.faults out.new) }
     ensures is_open { ForSome (F.told folder.new).files (IsOpen files.now) }
     ensures damaged { ForSome (F.told folder.old).files (IsItemName found.now.entry name.now) → IfDamaged result (IsFailedCheck files.now (F.told folder.new)) }
-    ensures untold { ForSome (F.told folder.old).files (λ from. IsOwnedBy found.now.entry owned.now from → ForEachOfKind found.now EntryKind.Part name.now from (λ state layout group. IfDamaged result (λ _. (F.told folder.old).files ≡ None))) }
+    ensures untold { WhereOwned (F.told folder.old) found.now owned.now EntryKind.Part name.now (λ from. OpaqueIfDamaged result (F.told folder.old)) }
     ensures writes { MayWrite F.told F.faults folder.old folder.new (IfDevice result) }
     ensures sink_later { GoesOn K.is K.faults out.old out.new }
 {
@@ -164,15 +161,15 @@ fn evict_parent<F: Folder, K: Sink>(
     requires places { All (IsPlaceAmong files.now) owned.now.places }
     requires light { owned.now.charge < 2 ^ 34 }
     requires is_open { ForSome (F.told folder.old).files (IsOpen files.now) }
-    ensures out { IfOk result (λ gone. ForSome (F.told folder.old).files (λ from. IsOwnedBy found.now.entry owned.now from → ForEachOfKind found.now EntryKind.Parent key.now from (λ state layout group. ForSome (F.told folder.new).files (IsGroupOut state layout group gone from)))) }
-    ensures prints { OnOk result (ForSome (F.told folder.old).files (λ from. IsOwnedBy found.now.entry owned.now from → ForEachOfKind found.now EntryKind.Parent key.now from (λ state layout group. PrintsUnlessFailed failed.old failed.new (K.written out.old) (K.written out.new) (evicted_text (group ∷ []))))) }
-    ensures stops { ForSome (F.told folder.old).files (λ from. IsOwnedBy found.now.entry owned.now from → ForEachOfKind found.now EntryKind.Parent key.now from (λ state layout group. Passes (F.told folder.old) (F.told folder.new) (FindsEither state (without (group ∷ []) state)))) }
-    ensures front { ForSome (F.told folder.old).files (λ from. IsOwnedBy found.now.entry owned.now from → ForEachOfKind found.now EntryKind.Parent key.now from (λ state layout group. Appends (K.written out.old) (K.written out.new) (evicted_text (group ∷ [])))) }
+    ensures out { IfOk result (λ gone. ForOwnedParent (F.told folder.old) found.now owned.now key.now (TakesGroup (F.told folder.new) gone)) }
+    ensures prints { OnOk result (ForOwnedParent (F.told folder.old) found.now owned.now key.now (SaysGroup failed.old failed.new K.written out.old out.new)) }
+    ensures stops { ForOwnedParent (F.told folder.old) found.now owned.now key.now (StopsGroup (F.told folder.old) (F.told folder.new)) }
+    ensures front { ForOwnedParent (F.told folder.old) found.now owned.now key.now (FrontOfGroup K.written out.old out.new) }
     ensures quiet { failed.old ≡ true → (failed.new ≡ true) × (K.written out.new ≡ K.written out.old) }
     ensures fails { FailsWhereItRose failed.old failed.new (K.faults out.old) (K.faults out.new) }
     ensures is_open { ForSome (F.told folder.new).files (IsOpen files.now) }
     ensures damaged { ForSome (F.told folder.old).files (IsItemName found.now.entry key.now) → IfDamaged result (IsFailedCheck files.now (F.told folder.new)) }
-    ensures untold { ForSome (F.told folder.old).files (λ from. IsOwnedBy found.now.entry owned.now from → ForEachOfKind found.now EntryKind.Parent key.now from (λ state layout group. IfDamaged result (λ _. (F.told folder.old).files ≡ None))) }
+    ensures untold { ForOwnedParent (F.told folder.old) found.now owned.now key.now (λ from state layout group. OpaqueIfDamaged result (F.told folder.old)) }
     ensures writes { MayWrite F.told F.faults folder.old folder.new (IfDevice result) }
     ensures sink_later { GoesOn K.is K.faults out.old out.new }
 {
@@ -217,17 +214,17 @@ fn remove_parent<F: Folder, K: Sink>(
     requires places { All (IsPlaceAmong files.now) owned.now.places }
     requires light { owned.now.charge < 2 ^ 34 }
     requires is_open { ForSome (F.told folder.old).files (IsOpen files.now) }
-    ensures removed { OnOk result (ForSome (F.told folder.old).files (λ from. IsOwnedBy at.now.entry owned.now from → ForEachParent key.now node at.now.entry at.now.before from (λ state layout unlinked number object. ForSome (F.told folder.new).files (IsGoneWhole state layout unlinked number object)))) }
-    ensures gone { IfOk result (λ gone. ForSome (F.told folder.old).files (λ from. IsOwnedBy at.now.entry owned.now from → ForEachParent key.now node at.now.entry at.now.before from (λ state layout unlinked number object. IsGroupTold state layout key.now gone))) }
-    ensures session { OnOk result (ForSome (F.told folder.old).files (λ from. IsOwnedBy at.now.entry owned.now from → ForEachParent key.now node at.now.entry at.now.before from (λ state layout unlinked number object. ForSome (F.told folder.new).files (SameSession from)))) }
-    ensures prints { OnOk result (ForSome (F.told folder.old).files (λ from. IsOwnedBy at.now.entry owned.now from → ForEachParent key.now node at.now.entry at.now.before from (λ state layout unlinked number object. PrintsUnlessFailed failed.old failed.new (K.written out.old) (K.written out.new) (text_of_parts key.now (parts_among key.now state.uses))))) }
-    ensures front { ForSome (F.told folder.old).files (λ from. IsOwnedBy at.now.entry owned.now from → ForEachParent key.now node at.now.entry at.now.before from (λ state layout unlinked number object. Appends (K.written out.old) (K.written out.new) (text_of_parts key.now (parts_among key.now state.uses)))) }
+    ensures removed { OnOk result (ForParentAt (F.told folder.old) key.now node at.now owned.now (TakesParent (F.told folder.new))) }
+    ensures gone { IfOk result (λ gone. ForParentAt (F.told folder.old) key.now node at.now owned.now (CountsParent gone)) }
+    ensures session { OnOk result (WhereParentAt (F.told folder.old) key.now node at.now owned.now (EndsIn (F.told folder.new) SameSession)) }
+    ensures prints { OnOk result (ForParentAt (F.told folder.old) key.now node at.now owned.now (SaysParts failed.old failed.new K.written out.old out.new)) }
+    ensures front { ForParentAt (F.told folder.old) key.now node at.now owned.now (FrontOfParts K.written out.old out.new) }
     ensures quiet { failed.old ≡ true → (failed.new ≡ true) × (K.written out.new ≡ K.written out.old) }
     ensures fails { FailsWhereItRose failed.old failed.new (K.faults out.old) (K.faults out.new) }
-    ensures stops { ForSome (F.told folder.old).files (λ from. IsOwnedBy at.now.entry owned.now from → ForEachParent key.now node at.now.entry at.now.before from (λ state layout unlinked number object. Passes (F.told folder.old) (F.told folder.new) (FindsEither state (doomed number state (Some object))))) }
+    ensures stops { ForParentAt (F.told folder.old) key.now node at.now owned.now (StopsParent (F.told folder.old) (F.told folder.new)) }
     ensures is_open { ForSome (F.told folder.new).files (IsOpen files.now) }
     ensures damaged { IfDamaged result (IsFailedCheck files.now (F.told folder.new)) }
-    ensures untold { ForSome (F.told folder.old).files (λ from. IsOwnedBy at.now.entry owned.now from → ForEachParent key.now node at.now.entry at.now.before from (λ state layout unlinked number object. IfDamaged result (λ _. (F.told folder.old).files ≡ None))) }
+    ensures untold { WhereParentAt (F.told folder.old) key.now node at.now owned.now (λ from. OpaqueIfDamaged result (F.told folder.old)) }
     ensures writes { MayWrite F.told F.faults folder.old folder.new (IfDevice result) }
     ensures sink_later { GoesOn K.is K.faults out.old out.new }
 {
@@ -257,11 +254,11 @@ fn remove_alone<F: Folder>(
     requires record_stands { IsTrue (is_record_among files.now found.now.entry) }
     requires places { All (IsPlaceAmong files.now) owned.now.places }
     requires is_open { ForSome (F.told folder.old).files (IsOpen files.now) }
-    ensures out { IfOk result (λ gone. ForSome (F.told folder.old).files (λ from. IsOwnedBy found.now.entry owned.now from → ForEachOfKind found.now (alone_kind is_child) name.now from (λ state layout group. ForSome (F.told folder.new).files (IsGroupOut state layout group gone from)))) }
-    ensures stops { ForSome (F.told folder.old).files (λ from. IsOwnedBy found.now.entry owned.now from → ForEachOfKind found.now (alone_kind is_child) name.now from (λ state layout group. Passes (F.told folder.old) (F.told folder.new) (FindsEither state (without (group ∷ []) state)))) }
+    ensures out { IfOk result (λ gone. ForOwned (F.told folder.old) found.now owned.now (alone_kind is_child) name.now (TakesGroup (F.told folder.new) gone)) }
+    ensures stops { ForOwned (F.told folder.old) found.now owned.now (alone_kind is_child) name.now (StopsGroup (F.told folder.old) (F.told folder.new)) }
     ensures is_open { ForSome (F.told folder.new).files (IsOpen files.now) }
     ensures damaged { ForSome (F.told folder.old).files (IsItemName found.now.entry name.now) → IfDamaged result (IsFailedCheck files.now (F.told folder.new)) }
-    ensures untold { ForSome (F.told folder.old).files (λ from. IsOwnedBy found.now.entry owned.now from → ForEachOfKind found.now (alone_kind is_child) name.now from (λ state layout group. IfDamaged result (λ _. (F.told folder.old).files ≡ None))) }
+    ensures untold { WhereOwned (F.told folder.old) found.now owned.now (alone_kind is_child) name.now (λ from. OpaqueIfDamaged result (F.told folder.old)) }
     ensures writes { MayWrite F.told F.faults folder.old folder.new (IfDevice result) }
 {
     let at = find_listed(folder, files, name, is_child, found.entry)?;
@@ -282,15 +279,15 @@ pub fn find_listed<F: Folder>(
     entry: Addr,
 ) -> Result<Found, Fault>
     requires record_stands { IsTrue (is_record_among files.now entry) }
-    ensures lies { IfOk result (λ at. ForSome (F.told folder.old).files (λ image. ForEachListed name.now is_child image (λ state layout item was. was.contents ≡ at.entry))) }
-    ensures behind { IfOk result (λ at. ForSome (F.told folder.old).files (λ image. ForEachListed name.now is_child image (λ state layout item was. LiesBehind state layout item was at.before))) }
+    ensures lies { IfOk result (λ at. ForListed (F.told folder.old) name.now is_child (λ state layout item was. was.contents ≡ at.entry)) }
+    ensures behind { IfOk result (λ at. ForListed (F.told folder.old) name.now is_child (λ state layout item was. LiesBehind state layout item was at.before)) }
     ensures kind { IfOk result (λ at. kind_of at.entry ≡ blocks_256) }
     ensures stands { IfOk result (λ at. IsTrue (stands_among files.now at.entry)) }
     ensures kind_before { IfOk result (λ at. IfSome at.before (λ before. kind_of before ≡ blocks_256)) }
     ensures stands_before { IfOk result (λ at. IfSome at.before (λ before. IsTrue (stands_among files.now before))) }
     ensures reads { ReadsOnly F.told F.faults folder.old folder.new (IfDevice result) }
     ensures damaged { ForSome (F.told folder.old).files (IsItemName entry name.now) → IfDamaged result (IsFailedCheck files.now (F.told folder.new)) }
-    ensures untold { ForSome (F.told folder.old).files (IsOpen files.now) → ForSome (F.told folder.old).files (λ image. ForEachListed name.now is_child image (λ state layout item was. IfDamaged result (λ _. (F.told folder.old).files ≡ None))) }
+    ensures untold { WhereListed (F.told folder.old) files.now name.now is_child (OpaqueIfDamaged result (F.told folder.old)) }
 {
     match find(folder, files, name, is_child)? {
         Some(at) => Ok(at),

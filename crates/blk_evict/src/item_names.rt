@@ -1,16 +1,17 @@
 // What an item is, by its record: its kind, and its key or name.
-ghost use Rattle.std.specs.Prelude.{◌≡◌, ◌≤◌, ◌<◌, ◌^◌, All, IfOk, IsTrue, None, length, take};
+ghost use Rattle.std.specs.Prelude.{◌≡◌, ◌≤◌, ◌<◌, ◌^◌, All, IfOk, IsTrue, length, take};
 ghost use Rattle.std.specs.Option.{ForSome};
 ghost use Rattle.spec_image.specs.Told.{ReadsOnly};
 ghost use Rattle.blk_io.specs.Faults.{IfDamaged, IfDevice};
-ghost use Rattle.spec_folder.specs.Loads.{Loaded};
-ghost use Rattle.blk_disk.specs.Tables.{Agrees, is_record_among};
+ghost use Rattle.blk_disk.specs.Tables.{is_record_among};
 ghost use Rattle.blk_entry.specs.Keys.{most_key};
 ghost use Rattle.blk_object.specs.FailedChecks.{IsFailedCheck};
 ghost use Rattle.blk_object.specs.Freeing.{IsPlaceAmong};
-ghost use Rattle.blk_object.specs.Owning.{LoadsWith};
+ghost use Rattle.blk_object.specs.Owning.{ForLoaded};
 ghost use Rattle.blk_object.specs.RemovingObjects.{IsOwnedBy};
 ghost use Rattle.blk_evict.specs.EvictingGroups.{IsItemName, IsNamedAs, kind_said};
+ghost use Rattle.blk_object.specs.Calls.{OpaqueIfDamaged};
+ghost use Rattle.blk_evict.specs.Looking.{WhereLoads};
 
 use blk_addr::Addr;
 use blk_disk::BlockFiles;
@@ -49,7 +50,7 @@ pub fn read_name<F: Folder>(
 ) -> Result<Named, Fault>
     requires stands { IsTrue (is_record_among files.now entry) }
     requires buffer { most_key ≤ length buffer.old }
-    ensures named { IfOk result (λ named. ForSome (F.told folder.old).files (λ image. (loaded : Loaded) → LoadsWith entry loaded image → IsNamedAs loaded named buffer.new)) }
+    ensures named { IfOk result (λ named. ForLoaded (F.told folder.old) entry (λ loaded. IsNamedAs loaded named buffer.new)) }
     ensures read { IfOk result (λ named. ForSome (F.told folder.old).files (IsItemName entry (take named.len buffer.new))) }
     ensures owned { IfOk result (λ named. ForSome (F.told folder.old).files (IsOwnedBy entry named.owned)) }
     ensures places { IfOk result (λ named. All (IsPlaceAmong files.now) named.owned.places) }
@@ -57,7 +58,7 @@ pub fn read_name<F: Folder>(
     ensures within { IfOk result (λ named. named.len ≤ length buffer.old) }
     ensures reads { ReadsOnly F.told F.faults folder.old folder.new (IfDevice result) }
     ensures damaged { IfDamaged result (IsFailedCheck files.now (F.told folder.new)) }
-    ensures untold { ForSome (F.told folder.old).files (Agrees files.now) → ForSome (F.told folder.old).files (λ image. (loaded : Loaded) × LoadsWith entry loaded image) → IfDamaged result (λ _. (F.told folder.old).files ≡ None) }
+    ensures untold { WhereLoads (F.told folder.old) files.now entry (OpaqueIfDamaged result (F.told folder.old)) }
 {
     let owned = read_owned(folder, files, entry)?;
     let len = key_piece(folder, files, entry, 0, buffer)?;

@@ -1,20 +1,16 @@
 // The live object of a key, as it is found in the folder.
-ghost use Rattle.std.specs.Prelude.{◌≡◌, ◌<◌, ℕ, IfOk, IfSome, IsTrue, List, None, true};
+ghost use Rattle.std.specs.Prelude.{◌≡◌, IfOk, IfSome, IsTrue};
 ghost use Rattle.std.specs.Option.{ForSome};
 ghost use Rattle.spec_image.specs.Told.{ReadsOnly};
 ghost use Rattle.spec_format.specs.Address.{blocks_256, kind_of};
 ghost use Rattle.blk_io.specs.Faults.{IfDamaged, IfDevice};
-ghost use Rattle.blk_model.specs.State.{State};
-ghost use Rattle.spec_folder.specs.Layout.{Layout};
-ghost use Rattle.spec_folder.specs.Loads.{Loaded};
 ghost use Rattle.spec_folder.specs.View.{entry_at};
 ghost use Rattle.blk_disk.specs.Open.{IsOpen};
-ghost use Rattle.blk_disk.specs.Tables.{Agrees, is_node_among, is_record_among, stands_among};
+ghost use Rattle.blk_disk.specs.Tables.{is_node_among, is_record_among, stands_among};
 ghost use Rattle.blk_entry.specs.Keys.{IsHeadDamage};
-ghost use Rattle.law_state.specs.Keeping.{KeepsUncounted};
-ghost use Rattle.blk_object.specs.Owning.{LoadsWith};
 ghost use Rattle.blk_evict.specs.EvictingGroups.{kind_said};
-ghost use Rattle.blk_evict.specs.Looking.{IsEntryDamage, IsLive, IsLookUpDamage, KeepsSomeState, charge_at};
+ghost use Rattle.blk_evict.specs.Looking.{IsEntryDamage, IsLookUpDamage, KeepsSomeState, charge_at, IsLiveOfKept, WhereLoads, NamesNode};
+ghost use Rattle.blk_object.specs.Calls.{OpaqueIfDamaged, UndamagedWhere};
 
 use crate::item_names::{EntryKind, kind_said};
 use blk_addr::Addr;
@@ -49,12 +45,12 @@ pub fn find_live<F: Folder>(
     files: &BlockFiles,
     key: &[u8],
 ) -> Result<Option<Live>, Fault>
-    ensures live { IfOk result (λ answer. ForSome (F.told folder.old).files (λ image. (state : State) (layout : Layout) (unlinked : List ℕ) → KeepsUncounted state layout unlinked image → IsLive state layout key.now answer)) }
+    ensures live { IfOk result (λ answer. ForSome (F.told folder.old).files (IsLiveOfKept key.now answer)) }
     ensures names { IfOk result (λ answer. IfSome answer (λ live. IsTrue (is_record_among files.now live.entry))) }
     ensures stands { IfOk result (λ answer. IfSome answer (λ live. IsTrue (is_node_among files.now live.node))) }
     ensures reads { ReadsOnly F.told F.faults folder.old folder.new (IfDevice result) }
     ensures damaged { IfDamaged result (IsLookUpDamage files.now (F.told folder.old) key.now) }
-    ensures untold { ForSome (F.told folder.old).files (IsOpen files.now) → ForSome (F.told folder.old).files KeepsSomeState → IfDamaged result (λ _. (F.told folder.old).files ≡ None) }
+    ensures untold { ForSome (F.told folder.old).files (IsOpen files.now) → UndamagedWhere result (F.told folder.old) KeepsSomeState }
 {
     let Some(found) = find(folder, files, key, false)? else {
         return Ok(None);
@@ -77,7 +73,7 @@ pub fn read_said<F: Folder>(folder: &mut F, files: &BlockFiles, entry: Addr) -> 
     ensures stands { IfOk result (λ said. IsTrue (is_node_among files.now said.node)) }
     ensures reads { ReadsOnly F.told F.faults folder.old folder.new (IfDevice result) }
     ensures damaged { IfDamaged result (IsEntryDamage files.now (F.told folder.old) entry) }
-    ensures untold { ForSome (F.told folder.old).files (Agrees files.now) → ForSome (F.told folder.old).files (λ image. (loaded : Loaded) × LoadsWith entry loaded image) → ForSome (F.told folder.old).files (λ image. is_node_among files.now (entry_at image entry).rankings_node ≡ true) → IfDamaged result (λ _. (F.told folder.old).files ≡ None) }
+    ensures untold { WhereLoads (F.told folder.old) files.now entry (UndamagedWhere result (F.told folder.old) (NamesNode files.now entry)) }
 {
     let head = read_head(folder, files, entry)?;
     let Some(node) = files.node(head.node) else {
@@ -98,7 +94,7 @@ pub fn read_charge<F: Folder>(folder: &mut F, files: &BlockFiles, entry: Addr) -
     ensures charge { IfOk result (λ charge. ForSome (F.told folder.old).files (λ image. charge ≡ charge_at image entry)) }
     ensures reads { ReadsOnly F.told F.faults folder.old folder.new (IfDevice result) }
     ensures damaged { IfDamaged result (IsHeadDamage (F.told folder.old) entry) }
-    ensures untold { ForSome (F.told folder.old).files (Agrees files.now) → ForSome (F.told folder.old).files (λ image. (loaded : Loaded) × LoadsWith entry loaded image) → IfDamaged result (λ _. (F.told folder.old).files ≡ None) }
+    ensures untold { WhereLoads (F.told folder.old) files.now entry (OpaqueIfDamaged result (F.told folder.old)) }
 {
     let head = read_head(folder, files, entry)?;
     Ok(charge_of_head(&head))

@@ -64,7 +64,7 @@ part_loaded key node loaded = option_map (λ number. record { node = node; entry
 
 -- the record of the part is the one that its node names
 abbrev pub IsAtItsNode : Told → ListedPart → Type 0
-IsAtItsNode told part = ForSome told.files (λ image. part.entry ≡ (node_at image part.node).contents)
+IsAtItsNode told found = ForSome told.files (λ image. found.entry ≡ (node_at image found.node).contents)
 
 -- the node and the record of a part that was found are valid, and its number is one that a part may have
 pub record IsPartThere (files : BlockFiles) (found : ListedPart) : Type 0 where

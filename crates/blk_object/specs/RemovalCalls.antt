@@ -132,8 +132,8 @@ abbrev pub RemovesNext : (new : Told) → Found → Image → State → Layout �
 RemovesNext new found from state layout keep chains unlinked item = CountsLeft state layout keep from → ForSome new.files (IsOutAndCounted state layout keep chains unlinked item found.entry)
 
 -- what else lies at unlinked addresses is unchanged
-abbrev pub KeepsOthers : (new : Told) → Image → State → Layout → (keep : Item → Bool) → (chains : ℕ → List ℕ) → List ℕ → Item → Type 0
-KeepsOthers new from state layout keep chains unlinked item = ForSome new.files (KeepsUnlinked unlinked from)
+abbrev pub LeavesOthers : (new : Told) → Image → State → Layout → (keep : Item → Bool) → (chains : ℕ → List ℕ) → List ℕ → Item → Type 0
+LeavesOthers new from state layout keep chains unlinked item = ForSome new.files (KeepsUnlinked unlinked from)
 
 -- before each step and after the last it is as before, going out, or out and its addresses are being freed
 abbrev pub StopsTakingNext : (old new : Told) → (node : ℕ) → Found → Image → State → Layout → (keep : Item → Bool) → (chains : ℕ → List ℕ) → List ℕ → Item → Type 0

@@ -11,7 +11,7 @@ ghost use Rattle.law_state.specs.Changes.{SameSession};
 ghost use Rattle.blk_object.specs.FailedChecks.{IsFailedCheck};
 ghost use Rattle.blk_object.specs.Owning.{ForLoaded};
 ghost use Rattle.blk_object.specs.Calls.{OpaqueIfDamaged, EndsIn};
-ghost use Rattle.blk_object.specs.RemovalCalls.{ForNext, WhereNext, RemovesNext, KeepsOthers, ForPart, StopsPart};
+ghost use Rattle.blk_object.specs.RemovalCalls.{ForNext, WhereNext, RemovesNext, LeavesOthers, ForPart, StopsPart};
 
 use crate::counters::count_less;
 use crate::removing_objects::take_away;
@@ -49,7 +49,7 @@ pub fn remove_part<F: Folder>(
     ensures session { OnOk result (WhereNext (F.told folder.old) node found.now (EndsIn (F.told folder.new) SameSession)) }
 
     // What lay in unlinked places, as its main item, loads yet by itself.
-    ensures keeps { OnOk result (ForNext (F.told folder.old) node found.now (KeepsOthers (F.told folder.new))) }
+    ensures keeps { OnOk result (ForNext (F.told folder.old) node found.now (LeavesOthers (F.told folder.new))) }
 
     // While a part goes after its main item, the durable contents with its object doomed are recovered.
     ensures part { ForPart (F.told folder.old) node found.now (StopsPart (F.told folder.old) (F.told folder.new)) }

@@ -1,3 +1,4 @@
 pub mod ItemRows
 pub mod RangePrinting
 pub mod PresentPrinting
+pub mod PrintCalls

@@ -1,24 +1,22 @@
 // The rows of the items of a folder, one for each, are printed.
 ghost use Rattle.std.specs.Prelude.{◌≡◌, ◌≤◌, IsTrue, None, OnErr, OnOk, length};
-ghost use Rattle.std.specs.List.{flat_map};
 ghost use Rattle.std.specs.Option.{ForSome};
 ghost use Rattle.spec_image.specs.Told.{ReadsOnly};
 ghost use Rattle.blk_io.specs.Faults.{IfDamaged, IfDevice};
 ghost use Rattle.blk_io.specs.Streams.{GoesOn};
-ghost use Rattle.blk_model.specs.Holding.{rows};
-ghost use Rattle.blk_script.specs.Reply.{row_line};
 ghost use Rattle.spec_format.specs.Address.{blocks_256, kind_of};
-ghost use Rattle.spec_folder.specs.Found.{row_of_loaded};
 ghost use Rattle.spec_folder.specs.Loads.{Loaded};
 ghost use Rattle.blk_disk.specs.Tables.{Agrees, is_node_among};
 ghost use Rattle.blk_entry.specs.Keys.{IsWordOf, most_key};
 ghost use Rattle.spec_format.specs.Names.{read_name};
 ghost use Rattle.spec_format.specs.Records.{child};
 ghost use Rattle.blk_object.specs.FailedChecks.{IsFailedCheck};
-ghost use Rattle.blk_object.specs.ListedParts.{LoadsAt};
+ghost use Rattle.blk_object.specs.ListedParts.{LoadsSomeAt};
 ghost use Rattle.blk_object.specs.ListWalks.{WalkEnds};
-ghost use Rattle.blk_print.specs.ItemRows.{HasKeptState, IsItemToldBy};
-ghost use Rattle.blk_evict.specs.RoomPrinting.{FailsWhereItRose, PrintsUnlessFailed, PrintsInPart};
+ghost use Rattle.blk_print.specs.ItemRows.{HasKeptState, IsItemToldBy, ForKeptRows, ForRowAt, ForRowOf};
+ghost use Rattle.blk_evict.specs.RoomPrinting.{FailsWhereItRose};
+ghost use Rattle.blk_object.specs.Calls.{UndamagedWhere};
+ghost use Rattle.blk_print.specs.PrintCalls.{SaysText, SaysPart};
 
 use crate::row_printing::{say_part, say_plain, say_sparse};
 use blk_addr::Addr;
@@ -44,8 +42,8 @@ pub fn print_items<F: Folder, K: Sink>(
     failed: &mut bool,
 ) -> Result<(), Fault>
     requires buffer { most_key ≤ length name.old }
-    ensures printed { OnOk result (ForSome (F.told folder.old).files (λ image. (p : HasKeptState files.now image) → PrintsUnlessFailed failed.old failed.new (K.written out.old) (K.written out.new) (flat_map row_line (rows p.state)))) }
-    ensures part { ForSome (F.told folder.old).files (λ image. (p : HasKeptState files.now image) → PrintsInPart failed.old (K.written out.old) (K.written out.new) (flat_map row_line (rows p.state))) }
+    ensures printed { OnOk result (ForKeptRows (F.told folder.old) files.now (SaysText failed.old failed.new K.written out.old out.new)) }
+    ensures part { ForKeptRows (F.told folder.old) files.now (SaysPart failed.old K.written out.old out.new) }
 
     // On every folder it is done only where the list ends.
     ensures ends { OnOk result (ForSome (F.told folder.old).files (WalkEnds files.now NodeView.NEXT None)) }
@@ -53,7 +51,7 @@ pub fn print_items<F: Folder, K: Sink>(
     ensures failed { FailsWhereItRose failed.old failed.new (K.faults out.old) (K.faults out.new) }
     ensures reads { ReadsOnly F.told F.faults folder.old folder.new (IfDevice result) }
     ensures damaged { IfDamaged result (IsFailedCheck files.now (F.told folder.new)) }
-    ensures untold { ForSome (F.told folder.old).files (HasKeptState files.now) → IfDamaged result (λ _. (F.told folder.old).files ≡ None) }
+    ensures untold { UndamagedWhere result (F.told folder.old) (HasKeptState files.now) }
     ensures later_out { GoesOn K.is K.faults out.old out.new }
 {
     let mut last = None;
@@ -80,12 +78,12 @@ fn print_row<F: Folder, K: Sink>(
 ) -> Result<(), Fault>
     requires stands { IsTrue (is_node_among files.now node) }
     requires buffer { most_key ≤ length name.old }
-    ensures printed { OnOk result (ForSome (F.told folder.old).files (λ image. (loaded : Loaded) → LoadsAt node loaded image → PrintsUnlessFailed failed.old failed.new (K.written out.old) (K.written out.new) (row_line (row_of_loaded loaded)))) }
+    ensures printed { OnOk result (ForRowAt (F.told folder.old) node (SaysText failed.old failed.new K.written out.old out.new)) }
     ensures unprinted { OnErr result (K.written out.new ≡ K.written out.old) }
     ensures failed { FailsWhereItRose failed.old failed.new (K.faults out.old) (K.faults out.new) }
     ensures reads { ReadsOnly F.told F.faults folder.old folder.new (IfDevice result) }
     ensures damaged { IfDamaged result (IsFailedCheck files.now (F.told folder.new)) }
-    ensures untold { ForSome (F.told folder.old).files (Agrees files.now) → ForSome (F.told folder.old).files (λ image. (loaded : Loaded) × LoadsAt node loaded image) → IfDamaged result (λ _. (F.told folder.old).files ≡ None) }
+    ensures untold { ForSome (F.told folder.old).files (Agrees files.now) → UndamagedWhere result (F.told folder.old) (LoadsSomeAt node) }
     ensures later_out { GoesOn K.is K.faults out.old out.new }
 {
     let entry = entry_named(folder, files, node)?;
@@ -104,7 +102,7 @@ fn say_row<K: Sink>(
     head: &Head,
 ) -> Result<(), Fault>
     requires kind { kind_of entry ≡ blocks_256 }
-    ensures printed { OnOk result ((loaded : Loaded) → IsItemToldBy loaded name.now head.now → PrintsUnlessFailed failed.old failed.new (K.written out.old) (K.written out.new) (row_line (row_of_loaded loaded))) }
+    ensures printed { OnOk result (ForRowOf name.now head.now (SaysText failed.old failed.new K.written out.old out.new)) }
     ensures unprinted { OnErr result (K.written out.new ≡ K.written out.old) }
     ensures failed { FailsWhereItRose failed.old failed.new (K.faults out.old) (K.faults out.new) }
     ensures damaged { IfDamaged result (λ damage. IsWordOf entry EntryView.FLAGS child damage × (read_name name.now ≡ None)) }

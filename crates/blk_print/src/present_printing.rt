@@ -1,21 +1,19 @@
 // Bytes of an object with parts are printed, where they are all present.
-ghost use Rattle.std.specs.Prelude.{◌≡◌, ◌≤◌, ◌+◌, IfSome, IsTrue, None, OnOk, length};
+ghost use Rattle.std.specs.Prelude.{◌≡◌, ◌≤◌, ◌+◌, IfSome, IsTrue, OnOk, length};
 ghost use Rattle.std.specs.Option.{ForSome};
 ghost use Rattle.spec_image.specs.Told.{ReadsOnly};
 ghost use Rattle.blk_io.specs.Faults.{IfDamaged, IfDevice};
 ghost use Rattle.blk_io.specs.Streams.{GoesOn};
-ghost use Rattle.blk_model.specs.Reply.{gave};
 ghost use Rattle.blk_model.specs.Sizes.{largest_offset, longest_key, part_size};
-ghost use Rattle.blk_model.specs.Sparse.{sparse_bytes};
 ghost use Rattle.spec_format.specs.Address.{blocks_256, is_address, kind_of};
 ghost use Rattle.spec_format.specs.Names.{longest_name};
 ghost use Rattle.blk_disk.specs.Open.{IsOpen};
 ghost use Rattle.blk_disk.specs.Tables.{is_record_among, stands_among};
-ghost use Rattle.blk_script.specs.Reply.{reply_text};
 ghost use Rattle.blk_object.specs.FailedChecks.{IsFailedCheck};
-ghost use Rattle.blk_sparse.specs.Finding.{ArePartsFound};
-ghost use Rattle.blk_print.specs.PresentPrinting.{HasPresent};
-ghost use Rattle.blk_evict.specs.RoomPrinting.{FailsWhereItRose, PrintsUnlessFailed, PrintsInPart};
+ghost use Rattle.blk_print.specs.PresentPrinting.{HasPresent, ForPresentBytes, ForPresentBytesIn, HasPresentIn};
+ghost use Rattle.blk_evict.specs.RoomPrinting.{FailsWhereItRose};
+ghost use Rattle.blk_object.specs.Calls.{UndamagedWhere};
+ghost use Rattle.blk_print.specs.PrintCalls.{SaysText, SaysPart};
 
 use crate::range_printing::{StreamRange, print_range, print_ranges};
 use blk_addr::Addr;
@@ -52,14 +50,14 @@ pub fn print_present<F: Folder, K: Sink>(
     requires few { range.now.count ≤ part_size }
     requires inside { range.now.offset + range.now.count ≤ largest_offset }
     requires is_open { ForSome (F.told folder.old).files (IsOpen files.now) }
-    ensures printed { OnOk result (ForSome (F.told folder.old).files (λ image. (p : HasPresent range.now image) → PrintsUnlessFailed failed.old failed.new (K.written out.old) (K.written out.new) (reply_text (gave (sparse_bytes p.object range.now.offset range.now.count))))) }
-    ensures part { ForSome (F.told folder.old).files (λ image. (p : HasPresent range.now image) → PrintsInPart failed.old (K.written out.old) (K.written out.new) (reply_text (gave (sparse_bytes p.object range.now.offset range.now.count)))) }
+    ensures printed { OnOk result (ForPresentBytes (F.told folder.old) range.now (SaysText failed.old failed.new K.written out.old out.new)) }
+    ensures part { ForPresentBytes (F.told folder.old) range.now (SaysPart failed.old K.written out.old out.new) }
     ensures failed { FailsWhereItRose failed.old failed.new (K.faults out.old) (K.faults out.new) }
     ensures reads { ReadsOnly F.told F.faults folder.old folder.new (IfDevice result) }
 
     // Corruption is a check that fails on what is read here. An observable folder, with such an object, gives none.
     ensures damaged { IfDamaged result (IsFailedCheck files.now (F.told folder.new)) }
-    ensures untold { ForSome (F.told folder.old).files (HasPresent range.now) → IfDamaged result (λ _. (F.told folder.old).files ≡ None) }
+    ensures untold { UndamagedWhere result (F.told folder.old) (HasPresent range.now) }
     ensures later_out { GoesOn K.is K.faults out.old out.new }
 {
     if range.count == 0 {
@@ -92,12 +90,12 @@ fn print_parts<F: Folder, K: Sink>(
     requires second_kind { IfSome parts.now.second (λ entry. kind_of entry ≡ blocks_256) }
     requires second_stands { IfSome parts.now.second (λ entry. IsTrue (stands_among files.now entry)) }
     requires is_open { ForSome (F.told folder.old).files (IsOpen files.now) }
-    ensures printed { OnOk result (ForSome (F.told folder.old).files (λ image. (p : HasPresent range.now image) → ArePartsFound p.layout p.object range.now.offset range.now.count parts.now → PrintsUnlessFailed failed.old failed.new (K.written out.old) (K.written out.new) (reply_text (gave (sparse_bytes p.object range.now.offset range.now.count))))) }
-    ensures part { ForSome (F.told folder.old).files (λ image. (p : HasPresent range.now image) → ArePartsFound p.layout p.object range.now.offset range.now.count parts.now → PrintsInPart failed.old (K.written out.old) (K.written out.new) (reply_text (gave (sparse_bytes p.object range.now.offset range.now.count)))) }
+    ensures printed { OnOk result (ForPresentBytesIn (F.told folder.old) range.now parts.now (SaysText failed.old failed.new K.written out.old out.new)) }
+    ensures part { ForPresentBytesIn (F.told folder.old) range.now parts.now (SaysPart failed.old K.written out.old out.new) }
     ensures failed { FailsWhereItRose failed.old failed.new (K.faults out.old) (K.faults out.new) }
     ensures reads { ReadsOnly F.told F.faults folder.old folder.new (IfDevice result) }
     ensures damaged { IfDamaged result (IsFailedCheck files.now (F.told folder.new)) }
-    ensures untold { ForSome (F.told folder.old).files (λ image. (p : HasPresent range.now image) × ArePartsFound p.layout p.object range.now.offset range.now.count parts.now) → IfDamaged result (λ _. (F.told folder.old).files ≡ None) }
+    ensures untold { UndamagedWhere result (F.told folder.old) (HasPresentIn range.now parts.now) }
     ensures later_out { GoesOn K.is K.faults out.old out.new }
 {
     let (_, place) = child_of(range.offset);

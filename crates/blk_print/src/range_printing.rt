@@ -1,17 +1,16 @@
 // Bytes of a stream are printed.
-ghost use Rattle.std.specs.Prelude.{◌≡◌, ◌≤◌, ◌<◌, ◌+◌, ◌^◌, ◌++◌, IsTrue, None, OnErr, OnOk, codes, length};
-ghost use Rattle.std.specs.Option.{ForSome};
+ghost use Rattle.std.specs.Prelude.{◌≡◌, ◌≤◌, ◌<◌, ◌+◌, ◌^◌, ◌++◌, IsTrue, OnErr, OnOk, codes, length};
 ghost use Rattle.hex.specs.Hex.{encode_lower};
 ghost use Rattle.spec_image.specs.Told.{ReadsOnly};
 ghost use Rattle.blk_io.specs.Faults.{IfDamaged, IfDevice};
 ghost use Rattle.blk_io.specs.Streams.{GoesOn};
-ghost use Rattle.blk_model.specs.Reply.{gave};
 ghost use Rattle.blk_disk.specs.Tables.{is_record_among};
-ghost use Rattle.blk_script.specs.Reply.{reply_text};
 ghost use Rattle.blk_script.specs.Spelling.{data_text, number_text};
 ghost use Rattle.blk_object.specs.FailedChecks.{IsFailedCheck};
-ghost use Rattle.blk_print.specs.RangePrinting.{HasBytes};
-ghost use Rattle.blk_evict.specs.RoomPrinting.{FailsWhereItRose, PrintsUnlessFailed, PrintsInPart};
+ghost use Rattle.blk_print.specs.RangePrinting.{HasBytes, ForText, ForRanges, WhereRanges};
+ghost use Rattle.blk_evict.specs.RoomPrinting.{FailsWhereItRose, PrintsUnlessFailed};
+ghost use Rattle.blk_object.specs.Calls.{OpaqueIfDamaged, UndamagedWhere};
+ghost use Rattle.blk_print.specs.PrintCalls.{SaysText, SaysPart, reply_with};
 
 use blk_addr::Addr;
 use blk_disk::BlockFiles;
@@ -47,12 +46,12 @@ pub fn print_range<F: Folder, K: Sink>(
     requires names { IsTrue (is_record_among files.now range.now.entry) }
     requires stream { range.now.stream < 3 }
     requires fits { range.now.offset + range.now.count < 2 ^ 64 }
-    ensures printed { OnOk result (ForSome (F.told folder.old).files (λ image. (p : HasBytes files.now range.now image) → PrintsUnlessFailed failed.old failed.new (K.written out.old) (K.written out.new) (reply_text (gave p.bytes)))) }
-    ensures part { ForSome (F.told folder.old).files (λ image. (p : HasBytes files.now range.now image) → PrintsInPart failed.old (K.written out.old) (K.written out.new) (reply_text (gave p.bytes))) }
+    ensures printed { OnOk result (ForText (F.told folder.old) files.now range.now reply_with (SaysText failed.old failed.new K.written out.old out.new)) }
+    ensures part { ForText (F.told folder.old) files.now range.now reply_with (SaysPart failed.old K.written out.old out.new) }
     ensures failed { FailsWhereItRose failed.old failed.new (K.faults out.old) (K.faults out.new) }
     ensures reads { ReadsOnly F.told F.faults folder.old folder.new (IfDevice result) }
     ensures damaged { IfDamaged result (IsFailedCheck files.now (F.told folder.new)) }
-    ensures untold { ForSome (F.told folder.old).files (HasBytes files.now range.now) → IfDamaged result (λ _. (F.told folder.old).files ≡ None) }
+    ensures untold { UndamagedWhere result (F.told folder.old) (HasBytes files.now range.now) }
     ensures later_out { GoesOn K.is K.faults out.old out.new }
 {
     say_front(out, failed, range.count);
@@ -81,12 +80,12 @@ pub(crate) fn print_ranges<F: Folder, K: Sink>(
     requires second_stream { second.now.stream < 3 }
     requires first_fits { first.now.offset + first.now.count < 2 ^ 64 }
     requires second_fits { second.now.offset + second.now.count < 2 ^ 64 }
-    ensures printed { OnOk result (ForSome (F.told folder.old).files (λ image. (p : HasBytes files.now first.now image) (q : HasBytes files.now second.now image) → PrintsUnlessFailed failed.old failed.new (K.written out.old) (K.written out.new) (reply_text (gave (p.bytes ++ q.bytes))))) }
-    ensures part { ForSome (F.told folder.old).files (λ image. (p : HasBytes files.now first.now image) (q : HasBytes files.now second.now image) → PrintsInPart failed.old (K.written out.old) (K.written out.new) (reply_text (gave (p.bytes ++ q.bytes)))) }
+    ensures printed { OnOk result (ForRanges (F.told folder.old) files.now first.now second.now (SaysText failed.old failed.new K.written out.old out.new)) }
+    ensures part { ForRanges (F.told folder.old) files.now first.now second.now (SaysPart failed.old K.written out.old out.new) }
     ensures failed { FailsWhereItRose failed.old failed.new (K.faults out.old) (K.faults out.new) }
     ensures reads { ReadsOnly F.told F.faults folder.old folder.new (IfDevice result) }
     ensures damaged { IfDamaged result (IsFailedCheck files.now (F.told folder.new)) }
-    ensures untold { ForSome (F.told folder.old).files (HasBytes files.now first.now) → ForSome (F.told folder.old).files (HasBytes files.now second.now) → IfDamaged result (λ _. (F.told folder.old).files ≡ None) }
+    ensures untold { WhereRanges (F.told folder.old) files.now first.now second.now (OpaqueIfDamaged result (F.told folder.old)) }
     ensures later_out { GoesOn K.is K.faults out.old out.new }
 {
     say_front(out, failed, first.count + second.count);
@@ -107,12 +106,12 @@ fn print_data<F: Folder, K: Sink>(
     requires names { IsTrue (is_record_among files.now range.now.entry) }
     requires stream { range.now.stream < 3 }
     requires fits { range.now.offset + range.now.count < 2 ^ 64 }
-    ensures printed { OnOk result (ForSome (F.told folder.old).files (λ image. (p : HasBytes files.now range.now image) → PrintsUnlessFailed failed.old failed.new (K.written out.old) (K.written out.new) (data_text p.bytes))) }
-    ensures part { ForSome (F.told folder.old).files (λ image. (p : HasBytes files.now range.now image) → PrintsInPart failed.old (K.written out.old) (K.written out.new) (data_text p.bytes)) }
+    ensures printed { OnOk result (ForText (F.told folder.old) files.now range.now data_text (SaysText failed.old failed.new K.written out.old out.new)) }
+    ensures part { ForText (F.told folder.old) files.now range.now data_text (SaysPart failed.old K.written out.old out.new) }
     ensures failed { FailsWhereItRose failed.old failed.new (K.faults out.old) (K.faults out.new) }
     ensures reads { ReadsOnly F.told F.faults folder.old folder.new (IfDevice result) }
     ensures damaged { IfDamaged result (IsFailedCheck files.now (F.told folder.new)) }
-    ensures untold { ForSome (F.told folder.old).files (HasBytes files.now range.now) → IfDamaged result (λ _. (F.told folder.old).files ≡ None) }
+    ensures untold { UndamagedWhere result (F.told folder.old) (HasBytes files.now range.now) }
     ensures later_out { GoesOn K.is K.faults out.old out.new }
 {
     if range.count == 0 {
@@ -133,12 +132,12 @@ fn print_pieces<F: Folder, K: Sink>(
     requires names { IsTrue (is_record_among files.now range.now.entry) }
     requires stream { range.now.stream < 3 }
     requires fits { range.now.offset + range.now.count < 2 ^ 64 }
-    ensures printed { OnOk result (ForSome (F.told folder.old).files (λ image. (p : HasBytes files.now range.now image) → PrintsUnlessFailed failed.old failed.new (K.written out.old) (K.written out.new) (encode_lower p.bytes))) }
-    ensures part { ForSome (F.told folder.old).files (λ image. (p : HasBytes files.now range.now image) → PrintsInPart failed.old (K.written out.old) (K.written out.new) (encode_lower p.bytes)) }
+    ensures printed { OnOk result (ForText (F.told folder.old) files.now range.now encode_lower (SaysText failed.old failed.new K.written out.old out.new)) }
+    ensures part { ForText (F.told folder.old) files.now range.now encode_lower (SaysPart failed.old K.written out.old out.new) }
     ensures failed { FailsWhereItRose failed.old failed.new (K.faults out.old) (K.faults out.new) }
     ensures reads { ReadsOnly F.told F.faults folder.old folder.new (IfDevice result) }
     ensures damaged { IfDamaged result (IsFailedCheck files.now (F.told folder.new)) }
-    ensures untold { ForSome (F.told folder.old).files (HasBytes files.now range.now) → IfDamaged result (λ _. (F.told folder.old).files ≡ None) }
+    ensures untold { UndamagedWhere result (F.told folder.old) (HasBytes files.now range.now) }
     ensures later_out { GoesOn K.is K.faults out.old out.new }
 {
     let mut done = 0;
@@ -167,12 +166,12 @@ fn print_piece<F: Folder, K: Sink>(
     requires few { range.now.count ≤ 4096 }
     requires names { IsTrue (is_record_among files.now range.now.entry) }
     requires stream { range.now.stream < 3 }
-    ensures printed { OnOk result (ForSome (F.told folder.old).files (λ image. (p : HasBytes files.now range.now image) → PrintsUnlessFailed failed.old failed.new (K.written out.old) (K.written out.new) (encode_lower p.bytes))) }
+    ensures printed { OnOk result (ForText (F.told folder.old) files.now range.now encode_lower (SaysText failed.old failed.new K.written out.old out.new)) }
     ensures unprinted { OnErr result (K.written out.new ≡ K.written out.old) }
     ensures failed { FailsWhereItRose failed.old failed.new (K.faults out.old) (K.faults out.new) }
     ensures reads { ReadsOnly F.told F.faults folder.old folder.new (IfDevice result) }
     ensures damaged { IfDamaged result (IsFailedCheck files.now (F.told folder.new)) }
-    ensures untold { ForSome (F.told folder.old).files (HasBytes files.now range.now) → IfDamaged result (λ _. (F.told folder.old).files ≡ None) }
+    ensures untold { UndamagedWhere result (F.told folder.old) (HasBytes files.now range.now) }
     ensures later_out { GoesOn K.is K.faults out.old out.new }
 {
     let mut buffer = [0u8; PIECE as usize];
@@ -193,12 +192,12 @@ fn print_through<F: Folder, K: Sink>(
     requires long { length piece.old ≡ range.now.count }
     requires names { IsTrue (is_record_among files.now range.now.entry) }
     requires stream { range.now.stream < 3 }
-    ensures printed { OnOk result (ForSome (F.told folder.old).files (λ image. (p : HasBytes files.now range.now image) → PrintsUnlessFailed failed.old failed.new (K.written out.old) (K.written out.new) (encode_lower p.bytes))) }
+    ensures printed { OnOk result (ForText (F.told folder.old) files.now range.now encode_lower (SaysText failed.old failed.new K.written out.old out.new)) }
     ensures unprinted { OnErr result (K.written out.new ≡ K.written out.old) }
     ensures failed { FailsWhereItRose failed.old failed.new (K.faults out.old) (K.faults out.new) }
     ensures reads { ReadsOnly F.told F.faults folder.old folder.new (IfDevice result) }
     ensures damaged { IfDamaged result (IsFailedCheck files.now (F.told folder.new)) }
-    ensures untold { ForSome (F.told folder.old).files (HasBytes files.now range.now) → IfDamaged result (λ _. (F.told folder.old).files ≡ None) }
+    ensures untold { UndamagedWhere result (F.told folder.old) (HasBytes files.now range.now) }
     ensures later_out { GoesOn K.is K.faults out.old out.new }
 {
     let number = read(

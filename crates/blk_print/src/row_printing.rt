@@ -1,8 +1,7 @@
 // The rows of a List are printed.
-ghost use Rattle.std.specs.Prelude.{◌∷◌, [], codes};
 ghost use Rattle.blk_io.specs.Streams.{GoesOn};
-ghost use Rattle.blk_script.specs.Spelling.{key_text, line, number_text};
 ghost use Rattle.blk_evict.specs.RoomPrinting.{FailsWhereItRose, PrintsUnlessFailed};
+ghost use Rattle.blk_print.specs.PrintCalls.{plain_line, sparse_line, part_line};
 
 use blk_evict::say;
 use blk_io::Sink;
@@ -17,7 +16,7 @@ pub(crate) fn say_plain<K: Sink>(
     second: u64,
     third: u64,
 )
-    ensures prints { PrintsUnlessFailed failed.old failed.new (K.written out.old) (K.written out.new) (line (codes "main" ∷ key_text key.now ∷ number_text first ∷ number_text second ∷ number_text third ∷ [])) }
+    ensures prints { PrintsUnlessFailed failed.old failed.new (K.written out.old) (K.written out.new) (plain_line key.now first second third) }
     ensures failed { FailsWhereItRose failed.old failed.new (K.faults out.old) (K.faults out.new) }
     ensures later { GoesOn K.is K.faults out.old out.new }
 {
@@ -36,7 +35,7 @@ pub(crate) fn say_plain<K: Sink>(
 
 /// Prints the row of an object with an index of parts, unless the output failed before: its key and the length of stream 0.
 pub(crate) fn say_sparse<K: Sink>(out: &mut K, failed: &mut bool, key: &[u8], first: u64)
-    ensures prints { PrintsUnlessFailed failed.old failed.new (K.written out.old) (K.written out.new) (line (codes "sparse" ∷ key_text key.now ∷ number_text first ∷ [])) }
+    ensures prints { PrintsUnlessFailed failed.old failed.new (K.written out.old) (K.written out.new) (sparse_line key.now first) }
     ensures failed { FailsWhereItRose failed.old failed.new (K.faults out.old) (K.faults out.new) }
     ensures later { GoesOn K.is K.faults out.old out.new }
 {
@@ -45,7 +44,7 @@ pub(crate) fn say_sparse<K: Sink>(out: &mut K, failed: &mut bool, key: &[u8], fi
 
 /// Prints the row of a part, unless the output failed before: the key of its object, its number, and how many bytes it has.
 pub(crate) fn say_part<K: Sink>(out: &mut K, failed: &mut bool, key: &[u8], number: u64, size: u64)
-    ensures prints { PrintsUnlessFailed failed.old failed.new (K.written out.old) (K.written out.new) (line (codes "part" ∷ key_text key.now ∷ number_text number ∷ number_text size ∷ [])) }
+    ensures prints { PrintsUnlessFailed failed.old failed.new (K.written out.old) (K.written out.new) (part_line key.now number size) }
     ensures failed { FailsWhereItRose failed.old failed.new (K.faults out.old) (K.faults out.new) }
     ensures later { GoesOn K.is K.faults out.old out.new }
 {
