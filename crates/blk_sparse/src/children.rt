@@ -56,7 +56,7 @@ pub fn drop_children<F: Folder>(
     requires is_open { ForSome (F.told f.old).files (IsOpen files.now) }
 
     // Where the parent of an object is out, and perhaps parts of it, and what is left is counted, all its items are out in the end, in the same session. How
-    // many parts went is the answer.
+    // many parts were removed is the answer.
     ensures out { OnOk result (ForSome (F.told f.old).files (λ from. ForEachParentOut parent.now.node parent.now.entry (cast_unsigned w64 parent.now.signature) from (λ state layout keep unlinked number object. ForSome (F.told f.new).files (IsWholeDropped state layout unlinked object.key)))) }
     ensures count { IfOk result (λ count. ForSome (F.told f.old).files (λ from. ForEachParentOut parent.now.node parent.now.entry (cast_unsigned w64 parent.now.signature) from (λ state layout keep unlinked number object. count ≡ length (parts_among object.key (filter keep state.uses))))) }
     ensures session { OnOk result (ForSome (F.told f.old).files (λ from. ForEachParentOut parent.now.node parent.now.entry (cast_unsigned w64 parent.now.signature) from (λ state layout keep unlinked number object. ForSome (F.told f.new).files (SameSession from)))) }
@@ -64,7 +64,7 @@ pub fn drop_children<F: Folder>(
     // What lies in places that were unlinked at first, as those of the parent, lies there still.
     ensures keeps { OnOk result (ForSome (F.told f.old).files (λ from. ForEachParentOut parent.now.node parent.now.entry (cast_unsigned w64 parent.now.signature) from (λ state layout keep unlinked number object. ForSome (F.told f.new).files (KeepsUnlinked unlinked from)))) }
 
-    // No more parts go than a list has nodes.
+    // No more parts are removed than a list has nodes.
     ensures few { IfOk result (λ count. count ≤ 131072) }
 
     // At each word the durable contents with the object doomed are recovered.
@@ -106,7 +106,7 @@ pub fn drop_children_with<F: Folder, E: FnMut(u32)>(
     requires is_open { ForSome (F.told folder.old).files (IsOpen files.now) }
 
     // Where the parent of an object is out, and perhaps parts of it, and what is left is counted, all its items are out in the end, in the same session. How
-    // many parts went is the answer.
+    // many parts were removed is the answer.
     ensures out { OnOk result (ForSome (F.told folder.old).files (λ from. ForEachParentOut parent.now.node parent.now.entry (cast_unsigned w64 parent.now.signature) from (λ state layout keep unlinked number object. ForSome (F.told folder.new).files (IsWholeDropped state layout unlinked object.key)))) }
     ensures count { IfOk result (λ count. ForSome (F.told folder.old).files (λ from. ForEachParentOut parent.now.node parent.now.entry (cast_unsigned w64 parent.now.signature) from (λ state layout keep unlinked number object. count ≡ length (parts_among object.key (filter keep state.uses))))) }
     ensures session { OnOk result (ForSome (F.told folder.old).files (λ from. ForEachParentOut parent.now.node parent.now.entry (cast_unsigned w64 parent.now.signature) from (λ state layout keep unlinked number object. ForSome (F.told folder.new).files (SameSession from)))) }
@@ -114,7 +114,7 @@ pub fn drop_children_with<F: Folder, E: FnMut(u32)>(
     // What lies in places that were unlinked at first, as those of the parent, lies there still.
     ensures keeps { OnOk result (ForSome (F.told folder.old).files (λ from. ForEachParentOut parent.now.node parent.now.entry (cast_unsigned w64 parent.now.signature) from (λ state layout keep unlinked number object. ForSome (F.told folder.new).files (KeepsUnlinked unlinked from)))) }
 
-    // No more parts go than a list has nodes.
+    // No more parts are removed than a list has nodes.
     ensures few { IfOk result (λ count. count ≤ 131072) }
 
     // `each` was called with the numbers of the parts that were left, in the order of the list, once each; or with a prefix of

@@ -38,8 +38,8 @@ use blk_stream::read;
 
 /// Removes an object with an index, a parent, which no handle names, with its parts: its main item is taken out and
 /// counted no longer, then each part is removed, as `drop_parts_with` says, and the main item's own places are freed last.
-/// Where no bit of its index is set, no list is walked. How many items went is given, the main one too, and the sum of
-/// their costs.
+/// Where no bit of its index is set, no list is walked. How many items were removed is given, the main one
+/// too, and the sum of their costs.
 ///
 /// Its places and its cost were read before, as `read_owned` gives them. Its record is in its chain after the record
 /// before, or is the first; and it names this node. The index is read into `buffer`, and then the names of parts are made
@@ -69,7 +69,7 @@ pub fn remove_parent_with<F: Folder, E: FnMut(u32)>(
     requires is_open { ForSome (F.told folder.old).files (IsOpen files.now) }
 
     // Where these are its places and its cost, and there is such an object in a state that is kept, the state with it doomed is kept in the end, in the same
-    // session. The answer has how many items went, and the sum of their costs.
+    // session. The answer has how many items were removed, and the sum of their costs.
     ensures removed { OnOk result (ForSome (F.told folder.old).files (λ from. IsOwnedBy found.now.entry owned.now from → ForEachParent key.now node found.now.entry found.now.before from (λ state layout unlinked number object. ForSome (F.told folder.new).files (IsGoneWhole state layout unlinked number object)))) }
     ensures gone { IfOk result (λ gone. ForSome (F.told folder.old).files (λ from. IsOwnedBy found.now.entry owned.now from → ForEachParent key.now node found.now.entry found.now.before from (λ state layout unlinked number object. IsGroupTold state layout key.now gone))) }
     ensures session { OnOk result (ForSome (F.told folder.old).files (λ from. IsOwnedBy found.now.entry owned.now from → ForEachParent key.now node found.now.entry found.now.before from (λ state layout unlinked number object. ForSome (F.told folder.new).files (SameSession from)))) }
@@ -101,7 +101,7 @@ pub fn remove_parent_with<F: Folder, E: FnMut(u32)>(
 }
 
 /// Dooms an object with an index, a parent, which a handle names: its main item is taken out, and counted no longer, nor
-/// is its cost; then each part goes, as `drop_parts_with` says; and its record gets the state of a doomed object last.
+/// is its cost; then each part is removed, as `drop_parts_with` says; and its record gets the state of a doomed object last.
 /// Where no bit of its index is set, no list is walked. Nothing of the main item is freed: its places stay its own until
 /// the last handle is closed. It answers how many parts were removed, and the sum of their costs.
 ///
@@ -128,7 +128,7 @@ pub fn doom_parent<F: Folder>(
     requires is_open { ForSome (F.told folder.old).files (IsOpen files.now) }
 
     // Where there is such an object in a state that is kept, and `charge` is the cost of its main item, the state with it doomed is kept in the end, in the
-    // same session. The answer has how many parts went, and the sum of their costs.
+    // same session. The answer has how many parts were removed, and the sum of their costs.
     ensures doomed { OnOk result (ForSome (F.told folder.old).files (λ from. ForEachHeldParent key.now node found.now.entry found.now.before charge from (λ state layout unlinked number object. ForSome (F.told folder.new).files (IsHeldWhole state layout unlinked number object)))) }
     ensures gone { IfOk result (λ gone. ForSome (F.told folder.old).files (λ from. ForEachHeldParent key.now node found.now.entry found.now.before charge from (λ state layout unlinked number object. ArePartsTold state layout key.now gone))) }
     ensures session { OnOk result (ForSome (F.told folder.old).files (λ from. ForEachHeldParent key.now node found.now.entry found.now.before charge from (λ state layout unlinked number object. ForSome (F.told folder.new).files (SameSession from)))) }
