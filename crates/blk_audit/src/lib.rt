@@ -5,6 +5,7 @@ mod changes;
 mod counting;
 mod fault;
 mod filling;
+mod following;
 mod laws;
 mod list_walk;
 mod named;

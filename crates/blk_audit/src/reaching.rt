@@ -1,5 +1,5 @@
 // The chains of the table.
-ghost use Rattle.std.specs.Prelude.{◌≡◌, ◌<◌, ◌≤◌, ◌+◌, ◌++◌, [], ◌∷◌, IfOk, OnOk, None, false, length, slice_get};
+ghost use Rattle.std.specs.Prelude.{◌≡◌, ◌≤◌, ◌+◌, ◌++◌, [], ◌∷◌, IfOk, OnOk, None, false, length, slice_get};
 ghost use Rattle.std.specs.Option.{ForSome};
 ghost use Rattle.spec_image.specs.Image.{HasRange, Index as index};
 ghost use Rattle.spec_image.specs.Told.{ReadsOnly};
@@ -7,27 +7,23 @@ ghost use Rattle.spec_format.specs.Address.{blocks_256, kind_of};
 ghost use Rattle.spec_format.specs.BlockFiles.{is_among};
 ghost use Rattle.spec_format.specs.Headers.{place_of_bucket, table_length};
 ghost use Rattle.spec_folder.specs.View.{store_of};
-ghost use Rattle.spec_folder.specs.Chains.{chain_from, most_records};
 ghost use Rattle.blk_disk.specs.Open.{IsOpen};
 ghost use Rattle.blk_disk.specs.Tables.{Agrees};
 ghost use Rattle.blk_index.specs.Table.{AreBuckets, buckets_of_piece, table_piece_length};
 ghost use Rattle.blk_audit.specs.Faults.{IfScanDamaged, IfScanDevice, IsChainsDamage, IsRecordDamage};
 ghost use Rattle.blk_audit.specs.Records.{AreRecordsOf};
-ghost use Rattle.blk_audit.specs.Chaining.{AreBucketsOf, AreFirstReached, AreOfFirst, AreReached, AreReachedThere, AreChainsThere, HasBuckets, HasEntry, HasFirst, HasRecords, IsLookedAt, IsReach, IsStepTaken, KeepsEnds, RecordsStand, is_met, reached_by, words_reached};
+ghost use Rattle.blk_audit.specs.Chaining.{AreBucketsOf, AreFirstReached, AreReached, AreChainsThere, HasBuckets, HasFirst, KeepsEnds, RecordsStand, is_met, reached_by, words_reached};
 
 use crate::fault::ScanFault;
-use crate::record_files::{Records, read_records, record_of};
+use crate::following::follow;
+use crate::record_files::{Records, read_records};
 use crate::records::first_of_record;
 use blk_addr::{Addr, Claims, NoMemory};
 use blk_disk::BlockFiles;
 use blk_index::{BUCKETS_OF_PIECE, buckets};
 use blk_io::Folder;
-use blk_record::IndexHead;
 use std::alloc::Global;
 use std::collections::BTreeSet;
-
-// The most records of a chain.
-const MOST_RECORDS: u32 = 16_777_216;
 
 // The calls that read the table.
 const PIECES: u16 = 4;
@@ -105,7 +101,7 @@ impl Reached {
     }
 
     // Whether the first block of a record was met.
-    fn has(&self, addr: Addr) -> bool
+    pub(crate) fn has(&self, addr: Addr) -> bool
         requires kind { kind_of addr ≡ blocks_256 }
         requires reached { AreReached self.now }
         ensures { result ≡ is_met (words_reached self.now) addr }
@@ -114,7 +110,7 @@ impl Reached {
     }
 
     // Adds a record whose first block was not met.
-    fn add(&mut self, addr: Addr) -> Result<(), NoMemory>
+    pub(crate) fn add(&mut self, addr: Addr) -> Result<(), NoMemory>
         requires kind { kind_of addr ≡ blocks_256 }
         requires reached { AreReached self.old }
         requires fresh { is_met (words_reached self.old) addr ≡ false }
@@ -262,84 +258,4 @@ fn follow_all<F: Folder>(
         reached.end_bucket(end == 0)?;
     }
     Ok(())
-}
-
-// Follows the chain of a bucket from a word on, and adds the records that it reaches. Those reached before are of
-// earlier buckets. Gives the word at which the chain ends.
-fn follow<F: Folder>(
-    folder: &mut F,
-    files: &BlockFiles,
-    records: &Records,
-    bucket: u32,
-    start: u32,
-    reached: &mut Reached,
-) -> Result<u32, ScanFault>
-    requires bucket { bucket < table_length }
-    requires records { ForSome (F.told folder.old).files (λ image. AreRecordsOf image records.now) }
-    requires met { AreReached reached.old }
-    requires there { ForSome (F.told folder.old).files (λ image. HasRecords files.now image (words_reached reached.old)) }
-    requires stand { RecordsStand files.now (words_reached reached.old) }
-    requires others { ForSome (F.told folder.old).files (λ image. Agrees files.now image → AreOfFirst (store_of image) bucket (words_reached reached.old)) }
-    ensures met { OnOk result (AreReached reached.new) }
-    ensures checked { OnOk result (ForSome (F.told folder.old).files (λ image. HasRecords files.now image (words_reached reached.new))) }
-    ensures looked { OnOk result (ForSome (F.told folder.old).files (λ image. IsLookedAt files.now image (words_reached reached.new) start)) }
-    ensures more { OnOk result (ForSome (F.told folder.old).files (λ image. length (words_reached reached.old) ≤ length (words_reached reached.new))) }
-    ensures reached { OnOk result (ForSome (F.told folder.old).files (λ image. Agrees files.now image → words_reached reached.new ≡ words_reached reached.old ++ (chain_from (store_of image) bucket most_records [] start).reached)) }
-    ensures end { IfOk result (λ end. ForSome (F.told folder.old).files (λ image. Agrees files.now image → end ≡ (chain_from (store_of image) bucket most_records [] start).end)) }
-    ensures stand { OnOk result (RecordsStand files.now (words_reached reached.new)) }
-    ensures ends { OnOk result (KeepsEnds reached.old reached.new) }
-    ensures reads { ReadsOnly F.told F.faults folder.old folder.new (IfScanDevice result) }
-    ensures damaged { IfScanDamaged result (IsRecordDamage files.now (F.told folder.new)) }
-    ensures untold { ForSome (F.told folder.new).files (Agrees files.now) → IfScanDamaged result (λ _. (F.told folder.new).files ≡ None) }
-{
-    let mut word = start;
-    for i in 0..MOST_RECORDS {
-        match reach(folder, files, records, bucket, reached, word)? {
-            Some(next) => word = next,
-            None => return Ok(word),
-        }
-    }
-    Ok(word)
-}
-
-// Reaches the record of a word, where there is one whose first block was not met, whose checksum matches or is absent, and which is of the bucket. Gives its
-// next.
-fn reach<F: Folder>(
-    folder: &mut F,
-    files: &BlockFiles,
-    records: &Records,
-    bucket: u32,
-    reached: &mut Reached,
-    word: u32,
-) -> Result<Option<u32>, ScanFault>
-    requires bucket { bucket < table_length }
-    requires records { ForSome (F.told folder.old).files (λ image. AreRecordsOf image records.now) }
-    requires met { AreReached reached.old }
-    requires there { ForSome (F.told folder.old).files (λ image. AreReachedThere files.now image (words_reached reached.old)) }
-    requires stand { RecordsStand files.now (words_reached reached.old) }
-    ensures met { OnOk result (AreReached reached.new) }
-    ensures stand { OnOk result (RecordsStand files.now (words_reached reached.new)) }
-    ensures ends { OnOk result (KeepsEnds reached.old reached.new) }
-    ensures checked { OnOk result (ForSome (F.told folder.old).files (λ image. HasEntry files.now image word)) }
-    ensures taken { IfOk result (λ next. ForSome (F.told folder.old).files (λ image. IsStepTaken files.now image (words_reached reached.old) word (words_reached reached.new) next)) }
-    ensures step { IfOk result (λ next. ForSome (F.told folder.old).files (λ image. Agrees files.now image → IsReach (store_of image) bucket (words_reached reached.old) word (words_reached reached.new) next)) }
-    ensures reads { ReadsOnly F.told F.faults folder.old folder.new (IfScanDevice result) }
-    ensures damaged { IfScanDamaged result (IsRecordDamage files.now (F.told folder.new)) }
-    ensures untold { ForSome (F.told folder.new).files (Agrees files.now) → IfScanDamaged result (λ _. (F.told folder.new).files ≡ None) }
-{
-    let Some(addr) = files.entry(word) else {
-        return Ok(None);
-    };
-    if reached.has(addr) {
-        return Ok(None);
-    }
-    let said = record_of(folder, files, records, addr)?;
-    if !said.words.checks {
-        return Ok(None);
-    }
-    if said.words.hash % IndexHead::BUCKETS != bucket {
-        return Ok(None);
-    }
-    reached.add(addr)?;
-    Ok(Some(said.words.next))
 }

@@ -1,11 +1,9 @@
 // A new object in a cache.
-ghost use Rattle.std.specs.Prelude.{◌≡◌, ◌≤◌, ◌<◌, ℕ, Bool, IfOk, IfSome, IsTrue, List, None, Ok, OnOk, Option, Some, false, length, slice_set, true, OnErr};
+ghost use Rattle.std.specs.Prelude.{◌≡◌, ◌≤◌, ◌<◌, ℕ, Bool, IfOk, IfSome, List, None, Ok, OnOk, Option, Some, false, length, true, OnErr};
 ghost use Rattle.std.specs.Option.{ForSome};
-ghost use Rattle.spec_image.specs.Told.{Passes, Stays, Told, MayWrite, ReadsOnly};
+ghost use Rattle.spec_image.specs.Told.{Stays, Told, MayWrite, ReadsOnly};
 ghost use Rattle.blk_io.specs.Faults.{IfDamaged, IfDevice};
 ghost use Rattle.blk_io.specs.Streams.{GoesOn};
-ghost use Rattle.blk_model.specs.Effects.{created};
-ghost use Rattle.blk_model.specs.Holding.{rest};
 ghost use Rattle.blk_model.specs.Refusals.{no_room, refused};
 ghost use Rattle.blk_model.specs.Request.{to_create};
 ghost use Rattle.blk_model.specs.Sizes.{handle_names, longest_key};
@@ -13,26 +11,21 @@ ghost use Rattle.blk_model.specs.State.{State};
 ghost use Rattle.blk_model.specs.declared.Answer.TheVariants as answer;
 ghost use Rattle.blk_model.specs.declared.Refusal.TheVariants as refusal;
 ghost use Rattle.blk_disk.specs.Open.{IsOpen};
-ghost use Rattle.blk_disk.specs.Tables.{is_node_among, is_record_among};
-ghost use Rattle.blk_handles.specs.Bindings.{AreShared, binding_for, binding_of, open_with};
-ghost use Rattle.law_state.specs.Changes.{Finds};
-ghost use Rattle.law_state.specs.Commands.{Does, IsDone, MayStop, MayStopAtEach};
+ghost use Rattle.blk_handles.specs.Bindings.{binding_of};
+ghost use Rattle.law_state.specs.Commands.{Does, MayStopAtEach};
 ghost use Rattle.blk_object.specs.FailedChecks.{IsFailedCheck};
-ghost use Rattle.blk_object.specs.Making.{CanHaveNew};
 ghost use Rattle.blk_cache.specs.CacheKeeping.{HoldsState};
 ghost use Rattle.blk_cache.specs.CommandClauses.{IsRefused, KeepsAny, open_refusal, SparesRefused};
-ghost use Rattle.blk_cache.specs.Creating.{CountsOneMore, HasRoomFor, IsNotRefused, IsReadyForSome, IsReadyToCreate, KeepsWithRoom, WantsRoomAlone, create_refusal};
+ghost use Rattle.blk_cache.specs.Creating.{IsNotRefused, WantsRoomAlone, create_refusal};
 ghost use Rattle.blk_evict.specs.Looking.{IsLookUpDamage};
 ghost use Rattle.blk_evict.specs.RoomPrinting.{FailsWhereItRose};
 ghost use Rattle.blk_cache.specs.Stepping.{SaysEvicted, SaysPrefix};
 
 use crate::cache::Cache;
 use crate::covered::Covered;
-use blk_addr::Addr;
-use blk_evict::{Live, find_live};
+use blk_evict::find_live;
 use blk_io::{Fault, Folder, Sink};
 use blk_model::{Answer, Refusal};
-use blk_object::make_entry;
 
 impl Cache {
     /// Makes a new object with a key, to which it gives a handle name, once there is space for it; what is evicted for
@@ -185,82 +178,6 @@ impl Cache {
         self.end_create(folder, handle, key, moment)
     }
 
-    // Ends a Create that isn't refused, after its evictions: its object is made, and a free handle names it.
-    pub(crate) fn end_create<F: Folder>(
-        &mut self,
-        folder: &mut F,
-        handle: u16,
-        key: &[u8],
-        moment: u64,
-    ) -> Result<Answer, Fault>
-        requires some { 1 ≤ length key.now }
-        requires most { length key.now ≤ longest_key }
-        requires known { handle < handle_names }
-        requires free { binding_of self.old.handles handle ≡ None }
-        requires is_open { ForSome (F.told folder.old).files (IsOpen self.old.files) }
-
-        // The Create is done, whatever state it began with, and after each single write the folder is as a crash in it may leave it.
-        ensures does { IfOk result (λ answer. ForSome (F.told folder.old).files (λ from. (state : State) → IsReadyToCreate self.old state moment handle key.now from → IsDone (HoldsState self.new) (F.told folder.new) moment (to_create handle key.now) answer state)) }
-        ensures stops { ForSome (F.told folder.old).files (λ from. (state : State) → IsReadyToCreate self.old state moment handle key.now from → Passes (F.told folder.old) (F.told folder.new) (MayStop state moment (to_create handle key.now))) }
-
-        ensures done { IfOk result (λ given. given ≡ answer.Done) }
-        ensures notes { self.new.notes ≡ self.old.notes }
-        ensures mark { self.new.mark ≡ self.old.mark }
-        ensures is_open { OnOk result (ForSome (F.told folder.new).files (IsOpen self.new.files)) }
-        ensures damaged { IfDamaged result (IsFailedCheck self.new.files (F.told folder.new)) }
-        ensures untold { ForSome (F.told folder.old).files (IsReadyForSome self.old handle key.now) → IfDamaged result (λ _. (F.told folder.old).files ≡ None) }
-        ensures writes { MayWrite F.told F.faults folder.old folder.new (IfDevice result) }
-    {
-        self.make_object(folder, handle, key, moment)?;
-        Ok(Answer::Done)
-    }
-
-    // Makes a new object with a key that no live object has, once there is space for it: it is dirty, its item is in
-    // front of the LRU list, and a free handle name is bound to it.
-    //
-    // The object is made in the folder before the name is bound and the item is counted. After a fault nothing is
-    // promised of the cache but that it can be dropped.
-    pub(crate) fn make_object<F: Folder>(
-        &mut self,
-        folder: &mut F,
-        handle: u16,
-        key: &[u8],
-        moment: u64,
-    ) -> Result<(), Fault>
-        requires some { 1 ≤ length key.now }
-        requires most { length key.now ≤ longest_key }
-        requires known { handle < handle_names }
-        requires free { binding_of self.old.handles handle ≡ None }
-        requires is_open { ForSome (F.told folder.old).files (IsOpen self.old.files) }
-
-        // In the end each state that was kept, that has space for the object, is kept with it.
-        ensures made { OnOk result (ForSome (F.told folder.old).files (λ from. (state : State) → HoldsState self.old state from → HasRoomFor state handle key.now → ForSome (F.told folder.new).files (HoldsState self.new (created handle key.now state)))) }
-
-        // At each word the old durable contents are recovered.
-        ensures stops { ForSome (F.told folder.old).files (λ from. (state : State) → HoldsState self.old state from → CanHaveNew state handle key.now → Passes (F.told folder.old) (F.told folder.new) (Finds (rest state))) }
-
-        ensures notes { self.new.notes ≡ self.old.notes }
-        ensures mark { self.new.mark ≡ self.old.mark }
-        ensures is_open { OnOk result (ForSome (F.told folder.new).files (IsOpen self.new.files)) }
-
-        // Corruption is a check that fails on what is read here; nothing is written after it.
-        ensures damaged { IfDamaged result (IsFailedCheck self.new.files (F.told folder.new)) }
-
-        // An observable folder reports no corruption where the cache keeps such a state.
-        ensures untold { ForSome (F.told folder.old).files (KeepsWithRoom self.old handle key.now) → IfDamaged result (λ _. (F.told folder.old).files ≡ None) }
-        ensures writes { MayWrite F.told F.faults folder.old folder.new (IfDevice result) }
-    {
-        let made = make_entry(folder, &mut self.files, key, self.mark, moment)?;
-        let new = Live {
-            entry: made.entry,
-            node: made.node,
-            charge: key.len() as u64,
-        };
-        let node = self.node_of(&new);
-        self.bind_new(handle, &new, node);
-        Ok(())
-    }
-
     // Why a Create is refused, but for lack of space: with `BadKey`, `BadHandle` or `HandleBusy`, by the key and the table of handles, or with `Exists` where a
     // live object has the key, the first of these. Nothing is written.
     pub(crate) fn refuses_create<F: Folder>(
@@ -287,22 +204,5 @@ impl Cache {
             Some(_) => Ok(Some(Refusal::Exists)),
             None => Ok(None),
         }
-    }
-
-    // Gives a free handle to a new object, which is dirty, and counts it.
-    fn bind_new(&mut self, name: u16, new: &Live, node: Addr)
-        requires known { name < handle_names }
-        requires free { binding_of self.old.handles name ≡ None }
-        requires same_node { ForSome (open_with self.old.handles new.now.entry) (λ object. object.node ≡ node) }
-        requires stands { IsTrue (is_node_among self.old.files node) }
-        requires names { IsTrue (is_record_among self.old.files new.now.entry) }
-        ensures binds { self.new.handles ≡ slice_set self.old.handles name (Some (binding_for self.old.handles new.now.entry node true)) }
-        ensures counts { CountsOneMore self.old self.new new.now.charge }
-        ensures shared { AreShared self.new.handles }
-    {
-        self.items = self.items.saturating_add(1);
-        self.bytes = self.bytes.saturating_add(new.charge);
-        self.open_bytes = self.open_bytes.saturating_add(new.charge);
-        self.handles.bind(name, new.entry, node, true);
     }
 }

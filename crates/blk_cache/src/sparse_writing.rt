@@ -1,10 +1,9 @@
 // The command SparseWrite.
-ghost use Rattle.std.specs.Prelude.{◌≡◌, ◌≤◌, ◌<◌, ◌+◌, ◌^◌, ℕ, [], IfOk, IfSome, IsSome, IsTrue, None, Ok, OnOk, length, OnErr};
+ghost use Rattle.std.specs.Prelude.{◌≡◌, ◌≤◌, ◌<◌, ◌+◌, ◌^◌, IfOk, IfSome, IsSome, IsTrue, None, Ok, OnOk, length, OnErr};
 ghost use Rattle.std.specs.Option.{ForSome};
 ghost use Rattle.spec_image.specs.Told.{Stays, MayWrite};
 ghost use Rattle.blk_io.specs.Faults.{IfDamaged, IfDevice};
 ghost use Rattle.blk_io.specs.Streams.{GoesOn};
-ghost use Rattle.blk_model.specs.Request.{to_sparse_write};
 ghost use Rattle.blk_model.specs.Sizes.{largest_offset, part_size, signatures};
 ghost use Rattle.blk_model.specs.declared.Answer.TheVariants as answer;
 ghost use Rattle.blk_disk.specs.Open.{IsOpen};
@@ -16,7 +15,7 @@ ghost use Rattle.blk_sparse.specs.SparseWrites.{signature_to};
 ghost use Rattle.blk_cache.specs.CacheKeeping.{HoldsState};
 ghost use Rattle.blk_cache.specs.CommandClauses.{IsRefused, KeepsAny, SparesRefused};
 ghost use Rattle.blk_cache.specs.Listing.{OnlyRoomChanges};
-ghost use Rattle.blk_cache.specs.SparseTargets.{AsksToStoreFor, HasRoomToStoreFor, NamesTargetFor, NamesTarget, early_store_refusal};
+ghost use Rattle.blk_cache.specs.SparseTargets.{AsksToStoreFor, HasRoomToStoreFor, NamesTargetFor, early_store_refusal};
 ghost use Rattle.blk_cache.specs.SparseWriting.{sparse_write_of};
 ghost use Rattle.blk_evict.specs.RoomPrinting.{FailsWhereItRose};
 ghost use Rattle.blk_cache.specs.Stepping.{SaysEvicted, SaysPrefix};
@@ -25,7 +24,6 @@ use crate::cache::Cache;
 use crate::sparse_rise::Rise;
 use crate::sparse_target::AskedTarget;
 use blk_io::{Fault, Folder, Sink};
-use blk_lru::touch;
 use blk_model::{Answer, Refusal};
 use blk_sparse::Target;
 
@@ -287,26 +285,5 @@ impl Cache {
         ensures few { self.now.bytes < 2 ^ 64 }
     {
         self.bytes
-    }
-
-    // Does a SparseWrite of no bytes: the main item of its object is put in front of the LRU list.
-    fn use_target<F: Folder>(
-        &self,
-        folder: &mut F,
-        target: &Target,
-        moment: u64,
-    ) -> Result<Answer, Fault>
-        requires stands { IsTrue (is_node_among self.now.files target.now.parent.node) }
-        requires is_open { ForSome (F.told folder.old).files (IsOpen self.now.files) }
-        ensures does { (handle offset : ℕ) → NamesTarget self.now (F.told folder.old) moment handle offset 0 target.now → IfOk result (λ answer. Does (HoldsState self.now) (HoldsState self.now) (F.told folder.old) (F.told folder.new) moment (to_sparse_write handle offset []) answer) }
-        ensures stops { (handle offset : ℕ) → NamesTarget self.now (F.told folder.old) moment handle offset 0 target.now → MayStopAtEach (HoldsState self.now) (F.told folder.old) (F.told folder.new) moment (to_sparse_write handle offset []) }
-        ensures wrote { IfOk result (λ given. given ≡ answer.Wrote 0) }
-        ensures is_open { ForSome (F.told folder.new).files (IsOpen self.now.files) }
-        ensures damaged { IfDamaged result (IsFailedCheck self.now.files (F.told folder.new)) }
-        ensures untold { (handle offset : ℕ) → NamesTarget self.now (F.told folder.old) moment handle offset 0 target.now → ForSome (F.told folder.old).files (KeepsAny self.now) → IfDamaged result (λ _. (F.told folder.old).files ≡ None) }
-        ensures writes { MayWrite F.told F.faults folder.old folder.new (IfDevice result) }
-    {
-        touch(folder, &self.files, target.parent.node, moment)?;
-        Ok(Answer::Wrote(0))
     }
 }

@@ -1,5 +1,5 @@
 // The command Write.
-ghost use Rattle.std.specs.Prelude.{All, ◌≡◌, ◌≤◌, ◌<◌, ◌+◌, ◌-◌, ◌^◌, IfOk, IfSome, IsTrue, None, Ok, OnOk, false, length, true, ℕ, Bool, OnErr};
+ghost use Rattle.std.specs.Prelude.{All, ◌≡◌, ◌≤◌, ◌<◌, ◌^◌, IfOk, IfSome, IsTrue, None, Ok, OnOk, false, length, true, ℕ, Bool, OnErr};
 ghost use Rattle.std.specs.Option.{ForSome};
 ghost use Rattle.spec_image.specs.Told.{Passes, Rises, Stays, MayWrite, ReadsOnly};
 ghost use Rattle.blk_io.specs.Faults.{IfDamaged, IfDevice};
@@ -8,11 +8,9 @@ ghost use Rattle.blk_model.specs.Holding.{rest};
 ghost use Rattle.blk_model.specs.Sizes.{longest_stream, most_stream};
 ghost use Rattle.blk_model.specs.State.{State};
 ghost use Rattle.blk_model.specs.declared.Answer.TheVariants as answer;
-ghost use Rattle.spec_folder.specs.Entries.{most_stream_bytes};
 ghost use Rattle.blk_disk.specs.Open.{IsOpen};
 ghost use Rattle.blk_disk.specs.Tables.{is_node_among};
 ghost use Rattle.blk_lru.specs.Lists.{IsListed};
-ghost use Rattle.blk_stream.specs.Writing.{size_after};
 ghost use Rattle.law_state.specs.Changes.{Finds};
 ghost use Rattle.law_state.specs.Commands.{Does, IsDone, MayStop, MayStopAtEach};
 ghost use Rattle.blk_object.specs.FailedChecks.{IsFailedCheck};
@@ -27,6 +25,7 @@ use crate::asking::{Asked, NamedStream};
 use crate::cache::Cache;
 use crate::making_room::Room;
 use crate::room::exceeds;
+use crate::write_lengths::{length_after, rise};
 use blk_disk::BlockFiles;
 use blk_io::{Fault, Folder, Sink};
 use blk_lru::touch;
@@ -282,22 +281,4 @@ fn stream_limit(max_bytes: u64) -> u64
     ensures few { result ≤ most_stream }
 {
     (max_bytes / STREAM_SHARE).min(u64::from(MOST_STREAM))
-}
-
-// The length of a stream of so many bytes once these are written over it from an offset on.
-#[tactic(auto, unfolding(blk_stream::specs::Writing::size_after))]
-fn length_after(cut: bool, size: u32, offset: u64, bytes: &[u8]) -> u64
-    requires most { offset + length bytes.now ≤ most_stream_bytes }
-    ensures { result ≡ size_after cut size offset (length bytes.now) }
-{
-    let end = offset + bytes.len() as u64;
-    if cut { end } else { end.max(u64::from(size)) }
-}
-
-// By how many bytes the stream is longer after the write.
-fn rise(cut: bool, size: u32, offset: u64, bytes: &[u8]) -> u64
-    requires most { offset + length bytes.now ≤ most_stream_bytes }
-    ensures { result ≡ size_after cut size offset (length bytes.now) - size }
-{
-    length_after(cut, size, offset, bytes).saturating_sub(u64::from(size))
 }

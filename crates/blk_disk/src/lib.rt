@@ -12,6 +12,7 @@ mod load;
 mod maps;
 mod names;
 mod sealed;
+mod seals;
 mod standing;
 mod tables;
 

@@ -10,12 +10,12 @@ ghost use Rattle.blk_record.specs.Fields.{IsField};
 ghost use Rattle.blk_io.specs.declared.folder.FileId.TheVariants as FileId;
 ghost use Rattle.blk_io.specs.Faults.{IfDamaged, IfDevice};
 ghost use Rattle.blk_disk.specs.Tables.{Agrees, stands_among};
-ghost use Rattle.blk_disk.specs.Unsealed as unsealed;
 ghost use Rattle.spec_format.specs.Sealed.{AreChanges, BeginsWithRecord, IsMidUpdate, IsUpdated, RecordChecks, placed, record_at, record_size, seal_by_kind, seal_place, seal_steps, sealed, sealed_steps, size_by_kind, steps_over, update_steps, update_words};
 ghost use Rattle.blk_disk.specs.Damages.{IsFailedRecord};
 ghost use Rattle.blk_disk.specs.Unsealed.{missing_steps};
 
 use crate::names::file_of;
+use crate::seals::{missing_seal, seal_of, size_of, wrong_seal};
 use crate::standing::place_of;
 use crate::tables::BlockFiles;
 use arrayvec::ArrayVec;
@@ -200,90 +200,6 @@ impl BlockFiles {
     {
         let words = words_of(place_of(addr), changes, seal_of(addr.kind()), seal);
         write_words(folder, file_of(addr), &words)
-    }
-}
-
-// The number of the bytes of a record.
-#[tactic(auto, unfolding(spec_format::specs::Sealed::size_by_kind))]
-fn size_of(kind: Kind) -> usize
-    ensures size { result ≡ size_by_kind (kind_number kind) }
-    ensures most { result ≤ 96 }
-{
-    match kind {
-        Kind::Rankings => NodeView::SIZE,
-        _ => EntryView::SIZE,
-    }
-}
-
-// The place of the checksum in a record.
-#[tactic(auto, unfolding(spec_format::specs::Sealed::seal_by_kind))]
-fn seal_of(kind: Kind) -> u32
-    ensures place { result ≡ seal_by_kind (kind_number kind) }
-    ensures most { result ≤ 92 }
-{
-    match kind {
-        Kind::Rankings => 32,
-        _ => 92,
-    }
-}
-
-// The checksum of a record, where it is wrong.
-#[tactic(auto, unfolding(spec_format::specs::Sealed::size_by_kind, spec_format::specs::Sealed::seal_by_kind))]
-fn wrong_seal(kind: Kind, bytes: &[u8]) -> Option<u32>
-    requires { length bytes.now ≡ size_by_kind (kind_number kind) }
-    ensures { result ≡ unsealed.wrong_seal (seal_by_kind (kind_number kind)) bytes.now }
-{
-    match kind {
-        Kind::Rankings => {
-            let Some(node) = NodeView::over(bytes) else {
-                unreachable!();
-            };
-            wrong_seal_at(&node, NodeView::SEAL)
-        }
-        _ => {
-            let Some(entry) = EntryView::over(bytes) else {
-                unreachable!();
-            };
-            wrong_seal_at(&entry, EntryView::SEAL)
-        }
-    }
-}
-
-// The checksum of a record that has it at this place, where it is wrong.
-fn wrong_seal_at<R: Record>(view: &R, at: usize) -> Option<u32>
-    requires place { at ≡ R.seal_place }
-    requires inside { IsField R.size at }
-    ensures { result ≡ unsealed.wrong_seal at (R.window_of view.now) }
-{
-    if view.checks() {
-        None
-    } else {
-        Some(view.word(at))
-    }
-}
-
-// The hash of a record, where its checksum isn't that.
-#[tactic(auto, unfolding(spec_format::specs::Sealed::size_by_kind, spec_format::specs::Sealed::seal_by_kind))]
-fn missing_seal(kind: Kind, bytes: &[u8]) -> Option<u32>
-    requires { length bytes.now ≡ size_by_kind (kind_number kind) }
-    ensures { result ≡ unsealed.missing_seal (seal_by_kind (kind_number kind)) bytes.now }
-{
-    match kind {
-        Kind::Rankings => missing_seal_at(&NodeView::new(bytes), NodeView::SEAL),
-        _ => missing_seal_at(&EntryView::new(bytes), EntryView::SEAL),
-    }
-}
-
-// The hash of a record that has its checksum at this place, where the checksum isn't that.
-fn missing_seal_at<R: Record>(view: &R, at: usize) -> Option<u32>
-    requires inside { IsField R.size at }
-    ensures { result ≡ unsealed.missing_seal at (R.window_of view.now) }
-{
-    let seal = super_fast_hash(&view.bytes()[..at]);
-    if view.word(at) == seal {
-        None
-    } else {
-        Some(seal)
     }
 }
 

@@ -1,5 +1,5 @@
 // A folder in memory, which keeps its start files, its files and each step since.
-ghost use Rattle.std.specs.Prelude.{◌≡◌, ◌||◌, nat_lt, ◌-◌, ◌^◌, ◌<◌, ◌≤◌, [], ◌∷◌, length, take, min, Some, None, OnOk, OnErr, IfOk, IsSome, is_some, is_err};
+ghost use Rattle.std.specs.Prelude.{◌≡◌, ◌-◌, ◌^◌, ◌<◌, ◌≤◌, [], ◌∷◌, length, take, min, Some, None, OnOk, OnErr, IfOk, IsSome, is_err};
 ghost use Rattle.std.specs.Option.{ForSome, option_map};
 ghost use Rattle.spec_image.specs.Image.{HasRange, empty_image, AreBytes};
 ghost use Rattle.spec_image.specs.Order.{IsAfter, IsNextFile};
@@ -7,45 +7,26 @@ ghost use Rattle.spec_image.specs.Steps.{SetLength, Delete, Note, words, image_a
 ghost use Rattle.spec_image.specs.Told.{Applies, AppliesPrefix, Stays, Rises, GivesBytes};
 ghost use Rattle.blk_io.specs.FileNames.{file_of};
 ghost use Rattle.blk_io.specs.Files.{image_of};
-ghost use Rattle.blk_io.specs.Trail.{IsTrailOf, AreBytesAlong, kept_steps, UsesUp};
-ghost use Rattle.blk_io.specs.Counts.{no_calls, with_listed, next_failure, fails_next, lasting, CountsCall, FindsMemory};
+ghost use Rattle.blk_io.specs.Trail.{IsTrailOf, AreBytesAlong, kept_steps};
+ghost use Rattle.blk_io.specs.Counts.{no_calls, with_listed, next_failure, fails_next, CountsCall, FindsMemory};
 
 use crate::calls::Calls;
-use crate::mem_files::{
-    MemFile, copy_files, length_in, next_file, put_file, read_in, remove, resize, write_over,
-};
-use crate::mem_trail::{Change, front_of, keep, keep_write, replay, steps_in, unkeep, word_count};
+use crate::mem_files::{MemFile, copy_files, length_in, next_file, put_file, read_in};
+use crate::mem_trail::{Change, keep, replay, steps_in, word_count};
 use crate::{Failed, FileId, Folder, NoMemory};
-use std::alloc::{AllocError, Global};
+use std::alloc::Global;
 
 /// A folder in memory. It is observable, with the steps that made its files unless it was made without a write trace.
 #[derive(Drop)]
 pub struct MemFolder {
-    alloc: Global,
+    pub(crate) alloc: Global,
     start: Vec<MemFile>,
-    files: Vec<MemFile>,
-    trail: Option<Vec<Change>>,
-    calls: Calls,
+    pub(crate) files: Vec<MemFile>,
+    pub(crate) trail: Option<Vec<Change>>,
+    pub(crate) calls: Calls,
     ghost agrees: { IsTrailOf start.items files.items (kept_steps trail) },
     ghost bytes: { AreBytes (image_of files.items) },
     ghost along: { AreBytesAlong start.items (kept_steps trail) },
-}
-
-// How many words of a write may last, where a listed failure lets so many last and so many steps are left.
-fn lasting_words(listed: Option<u64>, left: u64) -> u64
-    ensures { result ≡ lasting listed left }
-{
-    match listed {
-        Some(words) => words.min(left),
-        None => left,
-    }
-}
-
-// Whether a write fails: it is listed, or has more steps than are left.
-fn is_cut(listed: Option<u64>, left: u64, steps: u64) -> bool
-    ensures { result ≡ (is_some listed || nat_lt left steps) }
-{
-    listed.is_some() || left < steps
 }
 
 impl MemFolder {
@@ -150,80 +131,6 @@ impl MemFolder {
                 })
             }
             None => unreachable!(),
-        }
-    }
-
-    // Writes bytes of a file.
-    fn write_front(&mut self, file: FileId, at: u64, bytes: &[u8]) -> Result<(), AllocError>
-        requires inside { HasRange (image_of self.old.files.items) (file_of file) at (length bytes.now) }
-        ensures done { OnOk result (Applies (mem_told self.old) (mem_told self.new) (words (file_of file) at bytes.now)) }
-        ensures undone { OnErr result (mem_told self.new ≡ mem_told self.old) }
-        ensures calls { self.new.calls ≡ self.old.calls }
-    {
-        keep_write(self.alloc, &mut self.trail, file, at, bytes)?;
-        write_over(&mut self.files, file, at, bytes);
-        Ok(())
-    }
-
-    // Gives a file this length.
-    fn resize_told(&mut self, file: FileId, length: u64) -> Result<(), AllocError>
-        ensures done { OnOk result (Applies (mem_told self.old) (mem_told self.new) (SetLength (file_of file) length ∷ [])) }
-        ensures undone { OnErr result (mem_told self.new ≡ mem_told self.old) }
-        ensures calls { self.new.calls ≡ self.old.calls }
-    {
-        keep(&mut self.trail, Change::Sized(file, length))?;
-        match resize(self.alloc, &mut self.files, file, length) {
-            Ok(()) => Ok(()),
-            Err(e) => {
-                unkeep(&mut self.trail);
-                Err(e)
-            }
-        }
-    }
-
-    // Removes a file.
-    fn remove_told(&mut self, file: FileId) -> Result<(), AllocError>
-        ensures done { OnOk result (Applies (mem_told self.old) (mem_told self.new) (Delete (file_of file) ∷ [])) }
-        ensures undone { OnErr result (mem_told self.new ≡ mem_told self.old) }
-        ensures calls { self.new.calls ≡ self.old.calls }
-    {
-        keep(&mut self.trail, Change::Deleted(file))?;
-        remove(&mut self.files, file);
-        Ok(())
-    }
-
-    // Writes over bytes of a file, of which at most so many words may be written before the call fails, and says how many may still be after it.
-    pub(crate) fn write_within(
-        &mut self,
-        left: &mut u64,
-        file: FileId,
-        at: u64,
-        bytes: &[u8],
-    ) -> Result<(), Failed>
-        requires { ForSome (mem_told self.old).files (λ image. HasRange image (file_of file) at (length bytes.now)) }
-        ensures steps { OnOk result (Applies (mem_told self.old) (mem_told self.new) (words (file_of file) at bytes.now)) }
-        ensures prefix { AppliesPrefix (mem_told self.old) (mem_told self.new) (words (file_of file) at bytes.now) }
-        ensures later { (mem_counts self.old).faults ≤ (mem_counts self.new).faults }
-        ensures failed { OnErr result (Rises (mem_counts self.old).faults (mem_counts self.new).faults) }
-        ensures counted { CountsCall (mem_counts self.old) (mem_counts self.new) (is_err result) (fails_next (mem_counts self.old) || nat_lt left.old (length (words (file_of file) at bytes.now))) }
-        ensures lasted { FindsMemory (mem_counts self.old) (mem_counts self.new) → Applies (mem_told self.old) (mem_told self.new) (take (lasting (next_failure (mem_counts self.old)) left.old) (words (file_of file) at bytes.now)) }
-        ensures lacking { (mem_counts self.old).lacks < (mem_counts self.new).lacks → Stays (mem_told self.old) (mem_told self.new) }
-        ensures used { UsesUp (mem_told self.old) (mem_told self.new) (words (file_of file) at bytes.now) left.old left.new }
-    {
-        let listed = self.calls.begin();
-        let lasting = lasting_words(listed, *left);
-        let steps = word_count(at, bytes);
-        let is_failed = is_cut(listed, *left, steps);
-        match self.write_front(file, at, front_of(at, bytes, lasting)) {
-            Ok(()) => {
-                *left -= steps.min(lasting);
-                if is_failed {
-                    Err(self.calls.fail())
-                } else {
-                    Ok(())
-                }
-            }
-            Err(_) => Err(self.calls.lack()),
         }
     }
 }

@@ -12,11 +12,12 @@ ghost use Rattle.blk_io.specs.Faults.{IfDamaged, IfDevice};
 ghost use Rattle.blk_disk.specs.Open.{IsOpen};
 ghost use Rattle.blk_disk.specs.Tables.{stands_among};
 ghost use Rattle.blk_object.specs.FailedChecks.{IsFailedCheck};
-ghost use Rattle.blk_sparse.specs.Measuring.{ForEachParentMeasured, ForEachPartMeasured, ForEachPlainMeasured, IsMeasured, IsOne, IsPieceMeasured, IsTwo, one_if_none};
+ghost use Rattle.blk_sparse.specs.Measuring.{ForEachParentMeasured, ForEachPartMeasured, ForEachPlainMeasured, IsMeasured, IsPieceMeasured};
 ghost use Rattle.blk_sparse.specs.Parts.{ForEachOfKey};
 ghost use Rattle.blk_sparse.specs.SparseObjects.{with_signature};
 
 use crate::children::{Parent, read_key};
+use crate::measured_sums::{measured_one, measured_two};
 use crate::parts::{ParentName, find_part};
 use blk_addr::Addr;
 use blk_disk::BlockFiles;
@@ -214,45 +215,6 @@ fn measure_new(key: &[u8], signature: i64, number: u32, buffer: &mut [u8], end: 
         node: None,
         charged: 0,
         bytes: len as u64 + end + BLOCKS_INDEX,
-    }
-}
-
-// The sums where one part is in range.
-fn measured_one(piece: &Piece) -> Measured
-    requires light { piece.now.charged + piece.now.bytes < 2 ^ 35 }
-    ensures { IsOne piece.now result }
-{
-    Measured {
-        first: piece.node,
-        second: None,
-        charged: piece.charged,
-        bytes: piece.bytes,
-        items: one_if_none(&piece.node),
-    }
-}
-
-// The sums where two parts are in range.
-fn measured_two(front: &Piece, back: &Piece) -> Measured
-    requires front { front.now.charged + front.now.bytes < 2 ^ 35 }
-    requires back { back.now.charged + back.now.bytes < 2 ^ 35 }
-    ensures { IsTwo front.now back.now result }
-{
-    Measured {
-        first: front.node,
-        second: back.node,
-        charged: front.charged + back.charged,
-        bytes: front.bytes + back.bytes,
-        items: one_if_none(&front.node) + one_if_none(&back.node),
-    }
-}
-
-// 1 where there is no node, else 0.
-fn one_if_none(node: &Option<Addr>) -> u64
-    ensures { result ≡ one_if_none node.now }
-{
-    match node {
-        Some(_) => 0,
-        None => 1,
     }
 }
 

@@ -1,41 +1,39 @@
 // A part that doesn't exist is made, with its first piece.
-ghost use Rattle.std.specs.Prelude.{◌≡◌, ◌+◌, ◌^◌, ◌≤◌, ◌<◌, [], ◌∷◌, IfOk, IsTrue, List, ℕ, None, OnOk, length, true};
+ghost use Rattle.std.specs.Prelude.{◌≡◌, ◌+◌, ◌≤◌, ◌<◌, [], ◌∷◌, IfOk, IsTrue, None, OnOk, length, true};
 ghost use Rattle.std.specs.Int.{cast_unsigned, w64};
 ghost use Rattle.std.specs.Option.{ForSome};
-ghost use Rattle.spec_image.specs.Footprint.{SameOutside};
 ghost use Rattle.spec_image.specs.Told.{Passes, MayWrite, ReadsOnly};
 ghost use Rattle.blk_model.specs.Bytes.{overwritten};
 ghost use Rattle.blk_model.specs.Holding.{rest};
 ghost use Rattle.blk_model.specs.Sizes.{longest_key, part_count, part_size, signatures};
 ghost use Rattle.spec_format.specs.Address.{block_count, blocks_256, is_address, kind_of, rankings};
 ghost use Rattle.spec_format.specs.Names.{longest_name};
-ghost use Rattle.spec_format.specs.Sealed.{RecordChecks, record_range};
 ghost use Rattle.spec_format.specs.SparseIndex.{parent_index_length, part_index_length};
 ghost use Rattle.spec_format.specs.Storage as storage;
-ghost use Rattle.spec_folder.specs.Entries.{Role, most_stream_bytes};
+ghost use Rattle.spec_folder.specs.Entries.{most_stream_bytes};
 ghost use Rattle.blk_io.specs.Faults.{IfDamaged, IfDevice};
 ghost use Rattle.blk_disk.specs.Open.{IsOpen};
 ghost use Rattle.blk_disk.specs.Tables.{Agrees, is_node_among, is_record_among, stands_among};
 ghost use Rattle.blk_entry.specs.Keys.{stores};
-ghost use Rattle.blk_entry.specs.Writing.{FitsKey, HoldsLongKey, IsLongPlace, LiesApart};
+ghost use Rattle.blk_entry.specs.Writing.{HoldsLongKey, IsLongPlace, LiesApart};
 ghost use Rattle.blk_alloc.specs.Extending.{KeepsStanding};
 ghost use Rattle.blk_stream.specs.Streams.{address_word};
 ghost use Rattle.law_state.specs.Changes.{Finds, StillFinds};
 ghost use Rattle.blk_object.specs.FailedChecks.{IsFailedCheck};
-ghost use Rattle.blk_object.specs.Making.{LeavesRoom, Takes, words_of_places};
-ghost use Rattle.blk_sparse.specs.NewParts.{ArePartStreams, ForEachLacking, ForEachPartToBeListed, HasIndexPlace, HasStreamsNow, IsBeingNoted, IsChildWritten, IsFirstIndex, IsBitNoted, IsPartListed, AreStoredAt, IsWholeBeforeItsBit, TakesPart, WritesPart, child_entry, words_of_part};
+ghost use Rattle.blk_object.specs.Making.{LeavesRoom, Takes};
+ghost use Rattle.blk_sparse.specs.NewParts.{ForEachLacking, ForEachPartToBeListed, HasIndexPlace, IsBeingNoted, IsFirstIndex, IsBitNoted, IsPartListed, AreStoredAt, IsWholeBeforeItsBit, TakesPart};
 ghost use Rattle.blk_sparse.specs.SparseObjects.{KeepsParentThen, with_piece, with_piece_written};
 
+use crate::part_record::write_part;
 use blk_addr::Addr;
 use blk_chain::link_front;
 use blk_disk::BlockFiles;
-use blk_entry::{NewEntry, read_data, read_head, record_damage, stores, write_data, write_entry};
-use blk_index::bucket;
+use blk_entry::{read_data, read_head, record_damage, stores, write_data};
 use blk_io::{Fault, Folder};
 use blk_lru::insert_front;
 use blk_object::{Places, check_index, take_places};
 use blk_ranges::{ChildName, ParentMap, PartMap, has_part_bit, place_of_part, with_part_bit};
-use blk_record::{EntryView, IndexHead, super_fast_hash};
+use blk_record::EntryView;
 use blk_stream::store_new;
 
 /// The places of a new part.
@@ -121,111 +119,6 @@ fn take_part<F: Folder>(
         stored,
         index,
     })
-}
-
-// Writes the entry of a new part at its places, in front of the chain of its name, without streams yet.
-fn write_child<F: Folder>(
-    folder: &mut F,
-    files: &BlockFiles,
-    places: &Places,
-    name: &[u8],
-    moment: u64,
-) -> Result<(), Fault>
-    requires fits { FitsKey files.now (child_entry places.now 0) name.now }
-    requires holds { ForSome (F.told folder.old).files (HoldsLongKey places.now.long_key (length name.now)) }
-    requires apart { LiesApart places.now.entry places.now.long_key }
-    requires is_open { ForSome (F.told folder.old).files (IsOpen files.now) }
-    ensures written { OnOk result (ForSome (F.told folder.old).files (λ from. ForSome (F.told folder.new).files (IsChildWritten places.now name.now moment from))) }
-    ensures stops { ForSome (F.told folder.old).files (λ from. Passes (F.told folder.old) (F.told folder.new) (StillFinds (words_of_places places.now) from)) }
-    ensures checks { OnOk result (ForSome (F.told folder.new).files (RecordChecks places.now.entry)) }
-    ensures is_open { ForSome (F.told folder.new).files (IsOpen files.now) }
-    ensures damaged { IfDamaged result (IsFailedCheck files.now (F.told folder.new)) }
-    ensures untold { IfDamaged result (λ _. (F.told folder.old).files ≡ None) }
-    ensures writes { MayWrite F.told F.faults folder.old folder.new (IfDevice result) }
-{
-    let hash = super_fast_hash(name);
-    let next = bucket(folder, (hash % IndexHead::BUCKETS) as u16)?;
-    let new = NewEntry {
-        entry: places.entry,
-        node: places.node,
-        long_key: places.long_key,
-        child: true,
-        dirty: 0,
-        next,
-    };
-    write_entry(folder, files, &new, name, moment)
-}
-
-// Gives the record of a new part the sizes and the places of its data and of its index.
-fn name_streams<F: Folder>(
-    folder: &mut F,
-    files: &BlockFiles,
-    entry: Addr,
-    size: u32,
-    stored: Addr,
-    index: Addr,
-) -> Result<(), Fault>
-    requires kind { kind_of entry ≡ blocks_256 }
-    requires stands { IsTrue (stands_among files.now entry) }
-    requires is_open { ForSome (F.told folder.old).files (IsOpen files.now) }
-
-    // Where the addresses store streams of these lengths, the record has these streams in the end.
-    ensures named { OnOk result (ForSome (F.told folder.old).files (λ from. ForSome (F.told folder.new).files (λ image. (bytes map : List ℕ) → length bytes ≡ size → length map ≡ part_index_length → RecordChecks entry from → HasStreamsNow entry (record { stored = bytes; index = map; stored_addr = stored; index_addr = index }) from image))) }
-
-    // At each word of the update of a record whose checksum matches or is absent, nothing else has changed.
-    ensures stops { ForSome (F.told folder.old).files (λ from. RecordChecks entry from → Passes (F.told folder.old) (F.told folder.new) (SameOutside (record_range entry) from)) }
-    ensures is_open { ForSome (F.told folder.old).files (RecordChecks entry) → ForSome (F.told folder.new).files (IsOpen files.now) }
-    ensures damaged { IfDamaged result (IsFailedCheck files.now (F.told folder.new)) }
-    ensures untold { ForSome (F.told folder.old).files (RecordChecks entry) → IfDamaged result (λ _. (F.told folder.old).files ≡ None) }
-
-    // The addresses are words, whatever the answer.
-    ensures words { (stored < 2 ^ 32) × (index < 2 ^ 32) }
-
-    ensures writes { MayWrite F.told F.faults folder.old folder.new (IfDevice result) }
-{
-    let changes = [
-        (EntryView::DATA_SIZE + 4, size),
-        (EntryView::DATA_SIZE + 8, PartMap::LEN as u32),
-        (EntryView::DATA_ADDR + 4, stored.word()),
-        (EntryView::DATA_ADDR + 8, index.word()),
-    ];
-    files.update_sealed(folder, entry, &changes)
-}
-
-// Writes the record of a new part, whose streams are stored, with its two streams.
-fn write_part<F: Folder>(
-    folder: &mut F,
-    files: &BlockFiles,
-    places: &PartPlaces,
-    name: &[u8],
-    size: u32,
-    moment: u64,
-) -> Result<(), Fault>
-    requires fits { FitsKey files.now (child_entry places.now.places 0) name.now }
-    requires holds { ForSome (F.told folder.old).files (HoldsLongKey places.now.places.long_key (length name.now)) }
-    requires apart { LiesApart places.now.places.entry places.now.places.long_key }
-    requires streams { IsTrue (is_address places.now.stored) × IsTrue (is_address places.now.index) }
-    requires is_open { ForSome (F.told folder.old).files (IsOpen files.now) }
-
-    // Where the stored streams are those of a part of this name, each state that was kept with the part's words unlinked is kept so, and the part is there.
-    ensures written { OnOk result (ForSome (F.told folder.old).files (λ from. ForSome (F.told folder.new).files (λ image. (bytes index : List ℕ) (role : Role) → ArePartStreams places.now name.now bytes index role from → length bytes ≡ size → WritesPart places.now name.now bytes index role from image))) }
-
-    // At each word the old durable contents are recovered.
-    ensures stops { ForSome (F.told folder.old).files (λ from. Passes (F.told folder.old) (F.told folder.new) (StillFinds (words_of_part places.now) from)) }
-    ensures is_open { ForSome (F.told folder.new).files (IsOpen files.now) }
-    ensures damaged { IfDamaged result (IsFailedCheck files.now (F.told folder.new)) }
-    ensures untold { IfDamaged result (λ _. (F.told folder.old).files ≡ None) }
-    ensures writes { MayWrite F.told F.faults folder.old folder.new (IfDevice result) }
-{
-    write_child(folder, files, &places.places, name, moment)?;
-    name_streams(
-        folder,
-        files,
-        places.places.entry,
-        size,
-        places.stored,
-        places.index,
-    )
 }
 
 // Puts the node of a new part in front of the LRU list, and then its record in front of its chain.

@@ -1,5 +1,5 @@
 // The records that are kept so far, against which a further one is judged.
-ghost use Rattle.std.specs.Prelude.{◌≡◌, ◌≤◌, ◌<◌, ◌++◌, ◌||◌, [], ◌∷◌, List, ℕ, IfOk, None, OnOk, Ok, false, length, slice_get, true};
+ghost use Rattle.std.specs.Prelude.{◌≡◌, ◌≤◌, ◌<◌, ◌++◌, ◌||◌, [], ◌∷◌, List, IfOk, None, OnOk, Ok, false, length, slice_get};
 ghost use Rattle.std.specs.List.{list_any};
 ghost use Rattle.std.specs.Option.{ForSome};
 ghost use Rattle.spec_image.specs.Told.{ReadsOnly};
@@ -8,7 +8,6 @@ ghost use Rattle.spec_format.specs.Hash.{hash as hash_of};
 ghost use Rattle.spec_folder.specs.Audit as audit;
 ghost use Rattle.blk_addr.specs.Claims.{IsClaimsOf};
 ghost use Rattle.spec_folder.specs.Loads as shown;
-ghost use Rattle.spec_folder.specs.View.{store_of};
 ghost use Rattle.blk_io.specs.Faults.{IfDamaged, IfDevice};
 ghost use Rattle.blk_disk.specs.Tables.{Agrees};
 ghost use Rattle.blk_entry.specs.Keys.{most_key};
@@ -30,8 +29,6 @@ use blk_audit::ScanFault;
 use blk_disk::BlockFiles;
 use blk_entry::LONGEST_NAME;
 use blk_io::{Fault, Folder};
-use blk_ranges::{KEY_OF_NAME, read_child_name};
-use blk_record::super_fast_hash;
 use std::alloc::Global;
 
 /// The records that are kept so far, in the order in which they were tried, with what they own.
@@ -221,50 +218,6 @@ impl KeptSoFar {
         self.has(folder, files, loaded.hash, sought, key)
     }
 
-    // Whether a record is a part, whose key this is, and no kept record is its parent with its bit.
-    fn is_orphan<F: Folder>(
-        &self,
-        folder: &mut F,
-        files: &BlockFiles,
-        loaded: &Loaded,
-        key: &[u8],
-    ) -> Result<bool, Fault>
-        requires order { IsKeptInOrder files.now self.now }
-        ensures orphan { IfOk result (λ orphan. ForSome (F.told folder.old).files (λ image. Agrees files.now image → (kept : List shown.Loaded) (given : shown.Loaded) → AreShown image kept self.now.kept.items → IsLoadedFrom image given loaded.now → IsNameOf image loaded.now key.now → orphan ≡ audit.is_orphan kept given)) }
-        ensures reads { ReadsOnly F.told F.faults folder.old folder.new (IfDevice result) }
-        ensures short { IfDamaged result (IsCutRead files.now (F.told folder.old)) }
-        ensures untold { ForSome (F.told folder.old).files (Agrees files.now) → ForSome (F.told folder.old).files (λ image. HaveKeys image self.now.kept.items) → IfDamaged result (λ _. (F.told folder.old).files ≡ None) }
-    {
-        match loaded.role {
-            Role::Plain => Ok(false),
-            Role::Parent(_) => Ok(false),
-            Role::Part(_) => self.lacks_parent(folder, files, key),
-        }
-    }
-
-    // Whether no kept record is the parent of a part with this key, with its bit.
-    fn lacks_parent<F: Folder>(
-        &self,
-        folder: &mut F,
-        files: &BlockFiles,
-        key: &[u8],
-    ) -> Result<bool, Fault>
-        requires order { IsKeptInOrder files.now self.now }
-        ensures orphan { IfOk result (λ orphan. ForSome (F.told folder.old).files (λ image. Agrees files.now image → (kept : List shown.Loaded) (given : shown.Loaded) (node : ℕ) → AreShown image kept self.now.kept.items → shown.load (store_of image) shown.held_rule node ≡ Ok given → key.now ≡ given.key → shown.is_part given ≡ true → orphan ≡ audit.is_orphan kept given)) }
-        ensures reads { ReadsOnly F.told F.faults folder.old folder.new (IfDevice result) }
-        ensures short { IfDamaged result (IsCutRead files.now (F.told folder.old)) }
-        ensures untold { ForSome (F.told folder.old).files (Agrees files.now) → ForSome (F.told folder.old).files (λ image. HaveKeys image self.now.kept.items) → IfDamaged result (λ _. (F.told folder.old).files ≡ None) }
-    {
-        let Some(name) = read_child_name(key) else {
-            return Ok(true);
-        };
-        let behind = &key[KEY_OF_NAME..];
-        let parent = &behind[..name.key_len];
-        let hash = super_fast_hash(parent);
-        let found = self.has(folder, files, hash, Sought::ParentOf(name), parent)?;
-        Ok(!found)
-    }
-
     // Whether a kept record with this hash and length of the key is of a role that is sought.
     fn may_have(&self, hash: u32, key_len: u32, sought: Sought) -> bool
         requires { IsIndexed self.now }
@@ -284,7 +237,7 @@ impl KeptSoFar {
     }
 
     // Whether one of the kept records is what is sought, with this key and its hash.
-    fn has<F: Folder>(
+    pub(crate) fn has<F: Folder>(
         &self,
         folder: &mut F,
         files: &BlockFiles,

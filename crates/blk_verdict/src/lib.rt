@@ -11,6 +11,7 @@ mod keys;
 mod laws;
 mod listing;
 mod loading;
+mod orphans;
 mod owning;
 mod parts;
 mod passes;

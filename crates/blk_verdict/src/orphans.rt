@@ -1,0 +1,67 @@
+// The reason `Parent`: no kept record is the parent of a part.
+ghost use Rattle.std.specs.Prelude.{◌≡◌, List, ℕ, IfOk, None, Ok, true};
+ghost use Rattle.std.specs.Option.{ForSome};
+ghost use Rattle.spec_image.specs.Told.{ReadsOnly};
+ghost use Rattle.spec_folder.specs.Audit as audit;
+ghost use Rattle.spec_folder.specs.Loads as shown;
+ghost use Rattle.spec_folder.specs.View.{store_of};
+ghost use Rattle.blk_io.specs.Faults.{IfDamaged, IfDevice};
+ghost use Rattle.blk_disk.specs.Tables.{Agrees};
+ghost use Rattle.blk_verdict.specs.Kept.{AreShown, HaveKeys, IsKeptInOrder, IsLoadedFrom};
+ghost use Rattle.blk_verdict.specs.PartNames.{IsNameOf};
+ghost use Rattle.blk_verdict.specs.Reads.{IsCutRead};
+
+use crate::fitting::Sought;
+use crate::kept::KeptSoFar;
+use crate::loading::Loaded;
+use crate::roles::Role;
+use blk_disk::BlockFiles;
+use blk_io::{Fault, Folder};
+use blk_ranges::{KEY_OF_NAME, read_child_name};
+use blk_record::super_fast_hash;
+
+impl KeptSoFar {
+    // Whether a record is a part, whose key this is, and no kept record is its parent with its bit.
+    pub(crate) fn is_orphan<F: Folder>(
+        &self,
+        folder: &mut F,
+        files: &BlockFiles,
+        loaded: &Loaded,
+        key: &[u8],
+    ) -> Result<bool, Fault>
+        requires order { IsKeptInOrder files.now self.now }
+        ensures orphan { IfOk result (λ orphan. ForSome (F.told folder.old).files (λ image. Agrees files.now image → (kept : List shown.Loaded) (given : shown.Loaded) → AreShown image kept self.now.kept.items → IsLoadedFrom image given loaded.now → IsNameOf image loaded.now key.now → orphan ≡ audit.is_orphan kept given)) }
+        ensures reads { ReadsOnly F.told F.faults folder.old folder.new (IfDevice result) }
+        ensures short { IfDamaged result (IsCutRead files.now (F.told folder.old)) }
+        ensures untold { ForSome (F.told folder.old).files (Agrees files.now) → ForSome (F.told folder.old).files (λ image. HaveKeys image self.now.kept.items) → IfDamaged result (λ _. (F.told folder.old).files ≡ None) }
+    {
+        match loaded.role {
+            Role::Plain => Ok(false),
+            Role::Parent(_) => Ok(false),
+            Role::Part(_) => self.lacks_parent(folder, files, key),
+        }
+    }
+
+    // Whether no kept record is the parent of a part with this key, with its bit.
+    fn lacks_parent<F: Folder>(
+        &self,
+        folder: &mut F,
+        files: &BlockFiles,
+        key: &[u8],
+    ) -> Result<bool, Fault>
+        requires order { IsKeptInOrder files.now self.now }
+        ensures orphan { IfOk result (λ orphan. ForSome (F.told folder.old).files (λ image. Agrees files.now image → (kept : List shown.Loaded) (given : shown.Loaded) (node : ℕ) → AreShown image kept self.now.kept.items → shown.load (store_of image) shown.held_rule node ≡ Ok given → key.now ≡ given.key → shown.is_part given ≡ true → orphan ≡ audit.is_orphan kept given)) }
+        ensures reads { ReadsOnly F.told F.faults folder.old folder.new (IfDevice result) }
+        ensures short { IfDamaged result (IsCutRead files.now (F.told folder.old)) }
+        ensures untold { ForSome (F.told folder.old).files (Agrees files.now) → ForSome (F.told folder.old).files (λ image. HaveKeys image self.now.kept.items) → IfDamaged result (λ _. (F.told folder.old).files ≡ None) }
+    {
+        let Some(name) = read_child_name(key) else {
+            return Ok(true);
+        };
+        let behind = &key[KEY_OF_NAME..];
+        let parent = &behind[..name.key_len];
+        let hash = super_fast_hash(parent);
+        let found = self.has(folder, files, hash, Sought::ParentOf(name), parent)?;
+        Ok(!found)
+    }
+}

@@ -1,8 +1,0 @@
-use Rattle.law_folder.proofs.states.DirtyWords.{dirty-settles, written-settles}
-use Rattle.law_folder.proofs.dirty_words_settle.Goals as goal
-
-pub returns : goal.returns
-returns c = record {
-  put = dirty-settles;
-  written = written-settles;
-}

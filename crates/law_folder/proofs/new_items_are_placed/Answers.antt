@@ -1,5 +1,0 @@
-use Rattle.law_folder.proofs.commands.NewItems.{new-items-placed}
-use Rattle.law_folder.proofs.new_items_are_placed.Goals as goal
-
-pub returns : goal.returns
-returns c = new-items-placed
