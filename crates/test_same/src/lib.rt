@@ -9,12 +9,12 @@ use std::fmt::{Debug, Display};
 use std::process::Abort;
 
 /// Ends the test if the values differ, and prints both.
-pub fn same<A: Abort, T: PartialEq + Debug + Drop>(rt: &A, left: T, right: T) {
+pub fn assert_same<A: Abort, T: PartialEq + Debug + Drop>(rt: &A, left: T, right: T) {
     assert_eq!(*rt; left, right);
 }
 
-/// As [`same`], with a note on which row or turn it is.
-pub fn same_at<A: Abort, T: PartialEq + Debug + Drop, N: Display + Drop>(
+/// As [`assert_same`], with a note on which row or turn it is.
+pub fn assert_same_at<A: Abort, T: PartialEq + Debug + Drop, N: Display + Drop>(
     rt: &A,
     left: T,
     right: T,
