@@ -584,7 +584,7 @@ fn new_entries_are_written_and_read(rt: HostRuntime) -> Result<(), Fail> {
         read.fill(0);
         let pieces = halves(&mut f, entry, &mut read);
         assert_same(&rt, pieces, Ok([size / 2, size - size / 2]));
-        assert_same(&rt, read, key);
+        assert_same(&rt, &read, &key);
 
         // Eight calls load the files, one reads the record, and one reads the key, or two a longer one. Where length or hash
         // differ the key isn't read.
