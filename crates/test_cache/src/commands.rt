@@ -6,6 +6,7 @@ use itoa::Buffer;
 use std::alloc::Global;
 use std::test::Fail;
 use test_folders::stopping::{Mem, empty};
+use test_same::assert_same;
 use test_sessions::sessions::{LIMITS, Session};
 
 // Makes an object by a handle.
@@ -58,12 +59,12 @@ fn objects_are_found_by_their_chains(rt: HostRuntime) -> Result<(), Fail> {
         assert!(rt; calls <= 5);
     }
     assert!(rt; most <= 70, "{most} calls");
-    assert_eq!(rt; growths, 4);
+    assert_same(&rt, growths, 4);
     let (answer, calls) = open(&mut session, 0, b"zz")?;
-    assert_eq!(rt; answer, Answer::Refused(Refusal::Missing));
+    assert_same(&rt, answer, Answer::Refused(Refusal::Missing));
     assert!(rt; calls <= 2);
     let (answer, calls) = open(&mut session, 0, b"k2000")?;
-    assert_eq!(rt; answer, Answer::Done);
+    assert_same(&rt, answer, Answer::Done);
     assert!(rt; calls <= 41);
     Ok(())
 }

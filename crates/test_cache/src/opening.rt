@@ -12,6 +12,7 @@ use test_folders::many::{ENTRIES, Sort, many};
 use test_folders::mended::changed;
 use test_folders::stopped::{PUT_BACK, STOPPED};
 use test_folders::stopping::{Mem, again};
+use test_same::assert_same;
 
 const LIMITS: Limits = Limits {
     max_bytes: MOST_BYTES,
@@ -50,8 +51,8 @@ fn an_empty_folder_is_opened_and_ended(rt: HostRuntime) -> Result<(), Fail> {
     let mut f = SilentFolder::new(MemFolder::without_trail(rt.alloc()));
     for (number, most) in [(1, 60), (2, 74)] {
         let (shown, opening, ending) = session(rt.alloc(), &mut f)?;
-        assert_eq!(rt; shown, ((0, 0), number, [1, 0]));
-        assert_eq!(rt; ending, 1);
+        assert_same(&rt, shown, ((0, 0), number, [1, 0]));
+        assert_same(&rt, ending, 1);
         assert!(rt; opening <= most, "{opening} calls");
     }
     Ok(())
@@ -63,8 +64,8 @@ fn a_clean_folder_of_4000_entries_is_opened_by_few_calls(rt: HostRuntime) -> Res
     session(rt.alloc(), &mut f)?;
     let (shown, opening, ending) = session(rt.alloc(), &mut f)?;
     let ((items, _), number, crash) = shown;
-    assert_eq!(rt; (items, number, crash), (4000, 2, [1, 0]));
-    assert_eq!(rt; ending, 1);
+    assert_same(&rt, (items, number, crash), (4000, 2, [1, 0]));
+    assert_same(&rt, ending, 1);
     assert!(rt; opening <= 260, "{opening} calls");
     Ok(())
 }

@@ -13,6 +13,7 @@ use std::alloc::Global;
 use std::test::Fail;
 use test_folders::folders::{Entry, add, give_blocks, place_of, put_index, put_words};
 use test_folders::stopping::{Mem, empty};
+use test_same::assert_same;
 use test_sessions::sessions::{LIMITS, Session, held};
 
 // The index of the object, and the bits that it has: none, or those of its first two parts.
@@ -224,12 +225,12 @@ fn parts_go_after_their_object(rt: HostRuntime) -> Result<(), Fail> {
         bytes: 2454,
     };
     let mut f = in_session(rt.alloc())?;
-    assert_eq!(rt; parts_dropped(&mut f), Ok((both, BOTH)));
-    assert_eq!(rt; held(rt.alloc(), f)?, (0, 0, 0));
+    assert_same(&rt, parts_dropped(&mut f), Ok((both, BOTH)));
+    assert_same(&rt, held(rt.alloc(), f)?, (0, 0, 0));
     for (telling, told) in [(true, BOTH), (false, NONE)] {
         let mut f = in_session(rt.alloc())?;
-        assert_eq!(rt; children_dropped(&mut f, telling), Ok((2, told)));
-        assert_eq!(rt; held(rt.alloc(), f)?, (0, 0, 0));
+        assert_same(&rt, children_dropped(&mut f, telling), Ok((2, told)));
+        assert_same(&rt, held(rt.alloc(), f)?, (0, 0, 0));
     }
     Ok(())
 }
@@ -246,8 +247,8 @@ fn an_object_is_removed_or_doomed_with_its_parts(rt: HostRuntime) -> Result<(), 
     };
     for (dooms, gone, told) in [(false, removed, BOTH), (true, doomed, NONE)] {
         let mut f = in_session(rt.alloc())?;
-        assert_eq!(rt; whole_gone(&mut f, dooms), Ok((gone, told)));
-        assert_eq!(rt; held(rt.alloc(), f)?, (0, 0, 0));
+        assert_same(&rt, whole_gone(&mut f, dooms), Ok((gone, told)));
+        assert_same(&rt, held(rt.alloc(), f)?, (0, 0, 0));
     }
     Ok(())
 }
@@ -260,13 +261,25 @@ fn no_list_is_walked_where_no_bit_is_set(rt: HostRuntime) -> Result<(), Fail> {
         (Going::ByRecord, 0),
     ] {
         let (gone, calls) = calls_of(rt.alloc(), going, NO_PART, 1)?;
-        assert_eq!(rt; gone, items);
-        assert_eq!(rt; calls_of(rt.alloc(), going, NO_PART, 4)?, (items, calls));
+        assert_same(&rt, gone, items);
+        assert_same(
+            &rt,
+            calls_of(rt.alloc(), going, NO_PART, 4)?,
+            (items, calls),
+        );
         // Where a bit is set, each item of the list takes three calls.
         let walked = calls.wrapping_add(4);
-        assert_eq!(rt; calls_of(rt.alloc(), going, TWO_PARTS, 1)?, (items, walked));
+        assert_same(
+            &rt,
+            calls_of(rt.alloc(), going, TWO_PARTS, 1)?,
+            (items, walked),
+        );
         let longer = walked.wrapping_add(9);
-        assert_eq!(rt; calls_of(rt.alloc(), going, TWO_PARTS, 4)?, (items, longer));
+        assert_same(
+            &rt,
+            calls_of(rt.alloc(), going, TWO_PARTS, 4)?,
+            (items, longer),
+        );
     }
     Ok(())
 }

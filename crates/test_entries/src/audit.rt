@@ -6,6 +6,7 @@ use blk_disk::BlockFiles;
 use blk_io::{Failed, Fault, FileId, Folder, MemFolder, SilentFolder, StopFolder, write_word};
 use std::alloc::Global;
 use std::test::Fail;
+use test_same::assert_same;
 
 type Silent = SilentFolder<StopFolder>;
 
@@ -85,9 +86,9 @@ fn walked_on(alloc: Global, f: &mut Silent) -> Result<[[u32; 3]; 2], ScanFault> 
 fn a_walk_goes_along_the_completed_list(rt: HostRuntime) -> Result<(), Fail> {
     let [a, b, c] = NODES;
     let mut f = listed(rt.alloc())?;
-    assert!(rt; walked(rt.alloc(), &mut f) == Ok(([b, c, a], 3)));
+    assert_same(&rt, walked(rt.alloc(), &mut f), Ok(([b, c, a], 3)));
     let on = [[b, a, 0], [b, c, a]];
-    assert!(rt; walked_on(rt.alloc(), &mut f) == Ok(on));
+    assert_same(&rt, walked_on(rt.alloc(), &mut f), Ok(on));
     Ok(())
 }
 
@@ -151,8 +152,8 @@ fn read(alloc: Global, f: &mut Silent) -> Result<(usize, usize, [bool; 2], u64),
 fn a_chain_ends_before_another_bucket_and_before_a_met_record(rt: HostRuntime) -> Result<(), Fail> {
     let mut f = chained(rt.alloc())?;
     let chain = (2, Some(RECORDS[1]), 7);
-    assert!(rt; reached(rt.alloc(), &mut f) == Ok(chain));
+    assert_same(&rt, reached(rt.alloc(), &mut f), Ok(chain));
     let lists = (3, 3, [true, false], 8);
-    assert!(rt; read(rt.alloc(), &mut f) == Ok(lists));
+    assert_same(&rt, read(rt.alloc(), &mut f), Ok(lists));
     Ok(())
 }

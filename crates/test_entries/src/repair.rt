@@ -5,6 +5,7 @@ use blk_io::{Fault, FileId, write_word};
 use blk_record::IndexHead;
 use blk_repair::mend_list;
 use std::test::Fail;
+use test_same::assert_same;
 
 // Repairs the list of the three nodes, whose tail is lost, and of which the first and the last are kept, and shows it then.
 fn mended_list(f: &mut lru::Silent, files: &BlockFiles) -> Result<Shown, Fault> {
@@ -21,6 +22,6 @@ fn list_is_made_that_of_the_kept_nodes(rt: HostRuntime) -> Result<(), Fail> {
     let [zero, _, two] = NODES;
     let (mut f, files) = lru::listing(rt.alloc(), &NODES)?;
     let list = ([two, zero, 0, 2], [zero, 0, zero], [two, two, two]);
-    assert!(rt; mended_list(&mut f, &files) == Ok(list));
+    assert_same(&rt, mended_list(&mut f, &files), Ok(list));
     Ok(())
 }

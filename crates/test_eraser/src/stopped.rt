@@ -9,6 +9,7 @@ use std::alloc::Global;
 use std::test::Fail;
 use test_folders::folders::audited;
 use test_folders::found::found;
+use test_same::assert_same;
 
 // The limits that the program has where it is given none.
 const LIMITS: Limits = Limits {
@@ -287,24 +288,24 @@ fn stops_well(
 
 #[test]
 fn removals_that_erase_may_be_stopped(rt: HostRuntime) -> Result<(), Fail> {
-    assert_eq!(rt; stops_well(rt.alloc(), FIVE, REMOVED, 51)?, [true; 3]);
+    assert_same(&rt, stops_well(rt.alloc(), FIVE, REMOVED, 51)?, [true; 3]);
     Ok(())
 }
 
 #[test]
 fn cuts_that_erase_may_be_stopped(rt: HostRuntime) -> Result<(), Fail> {
-    assert_eq!(rt; stops_well(rt.alloc(), FIVE, CUT, 19_778)?, [true; 3]);
+    assert_same(&rt, stops_well(rt.alloc(), FIVE, CUT, 19_778)?, [true; 3]);
     Ok(())
 }
 
 #[test]
 fn growth_that_erases_may_be_stopped(rt: HostRuntime) -> Result<(), Fail> {
-    assert_eq!(rt; stops_well(rt.alloc(), FIVE, GROWN, 40_678)?, [true; 3]);
+    assert_same(&rt, stops_well(rt.alloc(), FIVE, GROWN, 40_678)?, [true; 3]);
     Ok(())
 }
 
 #[test]
 fn changes_of_large_blocks_that_erase_may_be_stopped(rt: HostRuntime) -> Result<(), Fail> {
-    assert_eq!(rt; stops_well(rt.alloc(), LARGE, CHANGED, 0)?, [true; 3]);
+    assert_same(&rt, stops_well(rt.alloc(), LARGE, CHANGED, 0)?, [true; 3]);
     Ok(())
 }

@@ -11,6 +11,7 @@ use test_folders::folders::{
     ADDRS, Change, DIRTY, Entry, Mem, NEXT, OPERATION, PREV, SIZES, TRANSACTION, add, change_all,
     give_blocks,
 };
+use test_same::assert_same;
 
 // The records of three entries, the last used first, and the node of the second.
 const C: u32 = 0xA001_0000;
@@ -206,7 +207,7 @@ fn an_opening_raises_the_index(rt: HostRuntime) -> Result<(), Fail> {
         let f = folder(rt.alloc(), &THREE, changes)?;
         let (counted, mut f) = is_counted(rt.alloc(), f, Status::Ok, "items 3 bytes 7\n")?;
         assert!(rt; counted);
-        assert_eq!(rt; summed(&mut f)?, [0x3_0000, 0, 7, 0]);
+        assert_same(&rt, summed(&mut f)?, [0x3_0000, 0, 7, 0]);
     }
     Ok(())
 }
@@ -222,7 +223,7 @@ fn a_transaction_that_does_not_count_is_ended(rt: HostRuntime) -> Result<(), Fai
     )?;
     let none = (Status::Ok, b"items 0 bytes 0\n".as_slice());
     assert!(rt; answers(rt.alloc(), &mut f, &["count"], b"", none)?);
-    assert_eq!(rt; read_word(&mut f, FileId::Index, TRANSACTION)?, 0);
+    assert_same(&rt, read_word(&mut f, FileId::Index, TRANSACTION)?, 0);
     Ok(())
 }
 

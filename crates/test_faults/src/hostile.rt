@@ -9,6 +9,7 @@ use blk_model::{Command, Limits};
 use blk_run::Status;
 use std::alloc::Global;
 use std::test::Fail;
+use test_same::assert_same;
 
 const LIMITS: Limits = Limits {
     max_bytes: 2_500_000,
@@ -206,7 +207,7 @@ fn a_computed_folder_is_verified(rt: HostRuntime) -> Result<(), Fail> {
         let mut out = MemSink::new(rt.alloc());
         match verify(rt.alloc(), &mut f, &mut out) {
             Ok(()) | Err(InspectFault::Device | InspectFault::Damaged(_)) => {}
-            Err(fault) => assert_eq!(rt; Err(fault), Ok(())),
+            Err(fault) => assert_same(&rt, Err(fault), Ok(())),
         }
     }
     Ok(())

@@ -5,6 +5,7 @@ use blk_model::{Command, Limits};
 use std::alloc::Global;
 use std::test::Fail;
 use test_folders::folders::{Mem, put_words};
+use test_same::assert_same;
 
 const LIMITS: Limits = Limits {
     max_bytes: 2_500_000,
@@ -64,7 +65,7 @@ fn rows_of_a_list_that_goes_round_end(rt: HostRuntime) -> Result<(), Fail> {
     let file = FileId::Block(0);
     let at = NEXT_OF_FRONT;
     let found = BEHIND;
-    assert_eq!(rt; damage, Some(Damage { file, at, found }));
+    assert_same(&rt, damage, Some(Damage { file, at, found }));
     Ok(())
 }
 
@@ -75,6 +76,6 @@ fn a_search_in_a_list_that_goes_round_ends(rt: HostRuntime) -> Result<(), Fail> 
     let file = FileId::Block(0);
     let at = PREV_OF_BEHIND;
     let found = FRONT;
-    assert_eq!(rt; damage, Some(Damage { file, at, found }));
+    assert_same(&rt, damage, Some(Damage { file, at, found }));
     Ok(())
 }

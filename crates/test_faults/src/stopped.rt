@@ -5,6 +5,7 @@ use std::alloc::Global;
 use std::test::Fail;
 use test_folders::folders::{DIRTY, HEAD, NODE_NEXT, TRANSACTION, place_of};
 use test_folders::inputs::{Pieces, text_of};
+use test_same::{assert_same, assert_same_at};
 
 // The folder that a session leaves, on which another run was made: its write trace is that of this run.
 fn played(
@@ -59,10 +60,11 @@ fn an_open_turns_at_the_word_that_names_its_node(rt: HostRuntime) -> Result<(), 
         turned = turned || read_word(&mut f, FileId::Index, TRANSACTION)? == node;
         assert!(rt; steps > 0 || !turned);
         let out = shown(rt.alloc(), &mut f, LOOKS)?;
-        assert_eq!(rt;
+        assert_same_at(
+            &rt,
             out.written(),
             if turned { AS_USED } else { AS_MADE },
-            "{steps}"
+            steps,
         );
     }
     assert!(rt; turned);
@@ -116,7 +118,7 @@ fn a_change_turns_at_the_dirty_word_and_a_close_at_the_clean_word(
             (true, false) => CHANGED,
         };
         let out = shown(rt.alloc(), &mut f, LOOK)?;
-        assert_eq!(rt; out.written(), wanted, "{steps}");
+        assert_same_at(&rt, out.written(), wanted, steps);
     }
     assert!(rt; marked);
     Ok(())
@@ -152,9 +154,9 @@ fn a_flush_turns_at_the_clean_word_and_a_write_after_it_at_the_dirty_word(
             _ => ABSENT,
         };
         let out = shown(rt.alloc(), &mut f, LOOK)?;
-        assert_eq!(rt; out.written(), wanted, "{steps}");
+        assert_same_at(&rt, out.written(), wanted, steps);
     }
-    assert!(rt; turns == 4);
+    assert_same(&rt, turns, 4);
     Ok(())
 }
 
@@ -184,10 +186,11 @@ fn a_sparse_object_is_evicted_whole_or_not_at_all(rt: HostRuntime) -> Result<(),
         let mut f = after(&whole, steps)?;
         let out = shown(rt.alloc(), &mut f, LOOK_AT_PARTS)?;
         is_gone = is_gone || out.written() == GONE;
-        assert_eq!(rt;
+        assert_same_at(
+            &rt,
             out.written(),
             if is_gone { GONE } else { WHOLE },
-            "{steps}"
+            steps,
         );
     }
     assert!(rt; is_gone);

@@ -4,6 +4,7 @@ use blk_host::{Access, Held, NotHeld, RealFolder};
 use blk_io::{FileId, Folder};
 use std::fs;
 use std::time::{Duration, Instant};
+use test_same::assert_same;
 
 // Whether the folder at a path is refused, as another program has it.
 fn is_held(rt: HostRuntime, path: &str, access: Access) -> bool {
@@ -52,7 +53,11 @@ fn a_shared_folder_is_read_alone(rt: HostRuntime) -> Result<(), NotHeld> {
     assert!(rt; write_four(&mut folder).is_ok());
     drop(folder);
     let mut folder = RealFolder::new(rt, rt.alloc(), take(rt, path, Access::Shared)?)?;
-    assert!(rt; read(&mut folder, FileId::Index, 1) == Ok((3, [0, 97, 98, 9, 9, 9, 9, 9])));
+    assert_same(
+        &rt,
+        read(&mut folder, FileId::Index, 1),
+        Ok((3, [0, 97, 98, 9, 9, 9, 9, 9])),
+    );
     assert!(rt; folder.write_at(FileId::Index, 0, b"x").is_err());
     assert!(rt; folder.set_len(FileId::Index, 9).is_err());
     assert!(rt; folder.set_len(FileId::Block(3), 0).is_err());

@@ -4,6 +4,7 @@ ghost use Rattle.std.specs.Prelude.{◌≤◌, IfOk};
 use blk_host::{Patient, StdSink, StdSource, SystemClock};
 use blk_io::{Clock, Failed, Sink, Source};
 use std::io::{self, ErrorKind, Read, Write};
+use test_same::assert_same;
 
 // A stream of the operating system that gives and takes two bytes in a call, and has an error of a kind in the third call.
 #[derive(Drop)]
@@ -68,27 +69,27 @@ fn puts<K: Sink>(sink: &mut K) -> [Result<(), Failed>; 3] {
 #[test]
 fn a_stream_that_fails_once_is_answered_once(rt: HostRuntime) {
     let mut source = StdSource::new(Halting::new(ErrorKind::BrokenPipe));
-    assert!(rt; takes(&mut source) == [Ok(2), Ok(2), Err(Failed), Ok(2)]);
+    assert_same(&rt, takes(&mut source), [Ok(2), Ok(2), Err(Failed), Ok(2)]);
     let mut sink = StdSink::new(Halting::new(ErrorKind::BrokenPipe));
-    assert!(rt; puts(&mut sink) == [Ok(()), Err(Failed), Ok(())]);
+    assert_same(&rt, puts(&mut sink), [Ok(()), Err(Failed), Ok(())]);
 }
 
 #[test]
 fn a_stream_that_is_interrupted_goes_on(rt: HostRuntime) {
     let mut source = StdSource::new(Halting::new(ErrorKind::Interrupted));
-    assert!(rt; takes(&mut source) == [Ok(2); 4]);
+    assert_same(&rt, takes(&mut source), [Ok(2); 4]);
     let mut sink = StdSink::new(Halting::new(ErrorKind::Interrupted));
-    assert!(rt; puts(&mut sink) == [Ok(()); 3]);
+    assert_same(&rt, puts(&mut sink), [Ok(()); 3]);
 }
 
 #[test]
 fn a_stream_that_would_block_is_waited_for(rt: HostRuntime) {
     let mut source = StdSource::new(Patient::new(Halting::new(ErrorKind::WouldBlock), rt));
-    assert!(rt; takes(&mut source) == [Ok(2); 4]);
+    assert_same(&rt, takes(&mut source), [Ok(2); 4]);
     let mut sink = StdSink::new(Patient::new(Halting::new(ErrorKind::WouldBlock), rt));
-    assert!(rt; puts(&mut sink) == [Ok(()); 3]);
+    assert_same(&rt, puts(&mut sink), [Ok(()); 3]);
     let mut sink = StdSink::new(Patient::new(Halting::new(ErrorKind::BrokenPipe), rt));
-    assert!(rt; puts(&mut sink) == [Ok(()), Err(Failed), Ok(())]);
+    assert_same(&rt, puts(&mut sink), [Ok(()), Err(Failed), Ok(())]);
 }
 
 #[test]

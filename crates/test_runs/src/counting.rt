@@ -7,6 +7,7 @@ use blk_run::{Status, run};
 use std::alloc::Global;
 use std::test::Fail;
 use test_folders::folders::Mem;
+use test_same::assert_same;
 
 const EMPTY: &[u8] = b"items 0 bytes 0\n";
 
@@ -62,13 +63,14 @@ fn an_empty_folder_is_made_and_counted_by_few_calls(rt: HostRuntime) -> Result<(
         assert!(rt; calls <= most, "{calls} calls");
     }
     let header = Some(8192);
-    assert_eq!(rt;
+    assert_same(
+        &rt,
         lengths_of(&mut f)?,
-        [Some(262512), header, header, header, header, None]
+        [Some(262512), header, header, header, header, None],
     );
     let start = f.calls();
     assert!(rt; answers(rt.alloc(), &mut f, "Count", Status::Words, b"usage\n")?);
-    assert_eq!(rt; f.calls(), start);
+    assert_same(&rt, f.calls(), start);
     Ok(())
 }
 
@@ -113,7 +115,7 @@ fn a_failing_output_ends_the_session(rt: HostRuntime) -> Result<(), Fail> {
             status == Status::Sink && out.written().len() == printed,
             "{put}"
         );
-        assert_eq!(rt; read_word(&mut f, FileId::Index, IndexHead::CRASH)?, 0);
+        assert_same(&rt, read_word(&mut f, FileId::Index, IndexHead::CRASH)?, 0);
     }
     Ok(())
 }

@@ -4,6 +4,7 @@ use blk_run::{Status, session};
 use std::alloc::Global;
 use std::test::Fail;
 use test_folders::stopping::empty;
+use test_same::assert_same;
 use test_sessions::sessions::LIMITS;
 
 // The most bytes that a session reads here.
@@ -21,9 +22,9 @@ fn played(alloc: Global, script: &[u8], out: &mut HoldingSink) -> Result<Status,
 fn at_0_nothing_is_held(rt: HostRuntime) -> Result<(), Fail> {
     let mut out = HoldingSink::new(rt.alloc());
     let status = played(rt.alloc(), b"create 0 a\nclose 0\n", &mut out)?;
-    assert_eq!(rt; status, Status::Ok);
-    assert_eq!(rt; out.written(), b"ok\nok\n".as_slice());
-    assert_eq!(rt; (out.handed(), out.waits()), (6, false));
+    assert_same(&rt, status, Status::Ok);
+    assert_same(&rt, out.written(), b"ok\nok\n");
+    assert_same(&rt, (out.handed(), out.waits()), (6, false));
     Ok(())
 }
 
@@ -31,8 +32,12 @@ fn at_0_nothing_is_held(rt: HostRuntime) -> Result<(), Fail> {
 fn at_1_nothing_is_held(rt: HostRuntime) -> Result<(), Fail> {
     let mut out = HoldingSink::new(rt.alloc());
     let status = played(rt.alloc(), b"list\nopen 0 a\n", &mut out)?;
-    assert_eq!(rt; status, Status::Refused);
-    assert_eq!(rt; (out.handed(), out.waits()), (out.written().len(), false));
+    assert_same(&rt, status, Status::Refused);
+    assert_same(
+        &rt,
+        (out.handed(), out.waits()),
+        (out.written().len(), false),
+    );
     Ok(())
 }
 
@@ -41,9 +46,9 @@ fn a_flush_that_fails_gives_5(rt: HostRuntime) -> Result<(), Fail> {
     let mut out = HoldingSink::new(rt.alloc());
     out.fail_at(2)?;
     let status = played(rt.alloc(), b"list\nlist\nlist\n", &mut out)?;
-    assert_eq!(rt; status, Status::Sink);
+    assert_same(&rt, status, Status::Sink);
     // The second reply is written and waits, and the third isn't made.
-    assert_eq!(rt; out.written(), b"end 0\nend 0\n".as_slice());
-    assert_eq!(rt; (out.handed(), out.waits()), (6, true));
+    assert_same(&rt, out.written(), b"end 0\nend 0\n");
+    assert_same(&rt, (out.handed(), out.waits()), (6, true));
     Ok(())
 }

@@ -9,6 +9,7 @@ use std::alloc::Global;
 use std::test::Fail;
 use test_folders::found::with_these;
 use test_folders::stopping::{again, empty};
+use test_same::assert_same;
 use test_sessions::sessions::{LIMITS, Session, held};
 
 const ENTRIES: u32 = 400;
@@ -187,12 +188,13 @@ fn all_but_the_entry_whose_close_failed_are_held(rt: HostRuntime) -> Result<(), 
         items: 400,
         bytes: 44_040_400,
     };
-    assert_eq!(rt; totals, all);
+    assert_same(&rt, totals, all);
     let mut session = failing_next(session)?;
     let handle = handle_of(ENTRIES - 1);
-    assert_eq!(rt;
+    assert_same(
+        &rt,
         session.step(&Command::Close { handle }).err(),
-        Some(StepFault::Device)
+        Some(StepFault::Device),
     );
 
     // The next session has the others, in their order and with all bytes.
@@ -202,15 +204,20 @@ fn all_but_the_entry_whose_close_failed_are_held(rt: HostRuntime) -> Result<(), 
         items: 399,
         bytes: 43_840_524,
     };
-    assert_eq!(rt; totals, first);
+    assert_same(&rt, totals, first);
     assert!(rt; shows_first(rt.alloc(), &mut next, &bytes)?);
     let mut f = again(next.f, u64::MAX);
     let mut out = MemSink::new(rt.alloc());
-    assert_eq!(rt; run_on(rt.alloc(), &mut f, "count", &mut out)?, Status::Ok);
-    assert_eq!(rt; out.written(), b"items 399 bytes 43840524\n".as_slice());
-    assert_eq!(rt;
+    assert_same(
+        &rt,
+        run_on(rt.alloc(), &mut f, "count", &mut out)?,
+        Status::Ok,
+    );
+    assert_same(&rt, out.written(), b"items 399 bytes 43840524\n");
+    assert_same(
+        &rt,
         held(rt.alloc(), f)?,
-        (399, 43_840_524, hash_of_first(399, &bytes))
+        (399, 43_840_524, hash_of_first(399, &bytes)),
     );
     Ok(())
 }

@@ -3,6 +3,7 @@ use blk_io::{ListClock, MemSink, MemSource};
 use blk_run::{Status, session};
 use std::test::Fail;
 use test_folders::stopping::empty;
+use test_same::assert_same;
 use test_sessions::sessions::{LIMITS, held};
 
 #[test]
@@ -20,9 +21,9 @@ fn a_session_ends_behind_its_budget(rt: HostRuntime) -> Result<(), Fail> {
         &mut f,
         &mut clock,
     );
-    assert_eq!(rt; status, Status::TooLong);
-    assert_eq!(rt; out.written(), b"end 0\n".as_slice());
+    assert_same(&rt, status, Status::TooLong);
+    assert_same(&rt, out.written(), b"end 0\n");
     let (items, bytes, _) = held(rt.alloc(), f)?;
-    assert_eq!(rt; (items, bytes), (0, 0));
+    assert_same(&rt, (items, bytes), (0, 0));
     Ok(())
 }

@@ -5,6 +5,7 @@ use blk_model::{Answer, Command, Refusal};
 use std::alloc::Global;
 use std::test::Fail;
 use test_folders::stopping::empty;
+use test_same::{assert_same, assert_same_at};
 use test_sessions::sessions::{LIMITS, Session};
 
 // The most bytes of a write, and where sparse data ends.
@@ -113,23 +114,23 @@ fn writes_at_borders_make_their_bytes_present(rt: HostRuntime) -> Result<(), Fai
         let mut session = with_object(rt.alloc())?;
         let answer = written(&mut session, offset, front(&bytes, length))?;
         if items == 0 {
-            assert_eq!(rt; answer, Answer::Refused(Refusal::RangeEnd));
+            assert_same(&rt, answer, Answer::Refused(Refusal::RangeEnd));
             continue;
         }
-        assert_eq!(rt; answer, Answer::Wrote(length), "{offset}");
+        assert_same_at(&rt, answer, Answer::Wrote(length), offset);
         let (run, totals) = found_behind(&mut session, offset)?;
         let expected = Answer::Range {
             start,
             length: count,
         };
-        assert_eq!(rt; run, expected, "{offset}");
+        assert_same_at(&rt, run, expected, offset);
         let expected = Answer::Totals {
             items,
             bytes: total,
         };
-        assert_eq!(rt; totals, expected, "{offset}");
+        assert_same_at(&rt, totals, expected, offset);
         session.out = MemSink::new(rt.alloc());
-        assert_eq!(rt; read_from(&mut session, start, count)?, count, "{offset}");
+        assert_same_at(&rt, read_from(&mut session, start, count)?, count, offset);
     }
     Ok(())
 }

@@ -7,6 +7,7 @@ use std::alloc::Global;
 use std::test::Fail;
 use test_folders::folders::audited;
 use test_folders::found::found;
+use test_same::{assert_same, assert_same_at};
 use test_sessions::sessions::{Held, LIMITS};
 
 // The moment of each command.
@@ -220,7 +221,12 @@ fn sessions_and_the_openings_behind_them_may_be_stopped(rt: HostRuntime) -> Resu
     for (count, (items, bytes)) in AT_REST.iter().enumerate() {
         let steps = steps_after(rt.alloc(), LIMITS, &COMMANDS, count)?;
         let rest = held_at(rt.alloc(), &f, steps)?;
-        assert_eq!(rt; (rest.0, rest.1), (*items, *bytes), "{count} commands");
+        assert_same_at(
+            &rt,
+            (rest.0, rest.1),
+            (*items, *bytes),
+            format_args!("{count} commands"),
+        );
         if count > 0 {
             let span = (before.0, steps);
             let stops = stops_well(rt.alloc(), &f, span, (before.1, rest))?;
@@ -236,12 +242,12 @@ fn a_closed_object_is_evicted_whole_or_not_at_all(rt: HostRuntime) -> Result<(),
     let f = done(rt.alloc(), THREE_ITEMS, &EVICTING)?;
     let first = steps_after(rt.alloc(), THREE_ITEMS, &EVICTING, 5)?;
     let before = held_at(rt.alloc(), &f, first)?;
-    assert_eq!(rt; (before.0, before.1), (3, 11_665));
+    assert_same(&rt, (before.0, before.1), (3, 11_665));
     let mut is_out = false;
     for stop in first..=steps_of(&f) {
         let now = held_at(rt.alloc(), &f, stop)?;
         is_out = is_out || now == (0, 0, 0);
-        assert_eq!(rt; now, if is_out { (0, 0, 0) } else { before }, "{stop}");
+        assert_same_at(&rt, now, if is_out { (0, 0, 0) } else { before }, stop);
     }
     assert!(rt; is_out);
     Ok(())

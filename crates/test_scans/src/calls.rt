@@ -10,6 +10,7 @@ use std::test::Fail;
 use test_folders::folders::{Mem, add, put_words};
 use test_folders::many::{ENTRIES, OTHERS, Sort, many, plain};
 use test_folders::mended::mend;
+use test_same::assert_same;
 
 // How many of so many entries are kept, and all the folder calls of the consistency check.
 fn counts(alloc: Global, sort: Sort, entries: u32) -> Result<(u64, u64), Fail> {
@@ -29,7 +30,7 @@ fn an_audit_of_4000_entries_takes_few_calls(rt: HostRuntime) -> Result<(), Fail>
         (Sort::Parents, 1 + 1 + 3),
     ] {
         let (items, calls) = counts(rt.alloc(), sort, ENTRIES)?;
-        assert_eq!(rt; items, 4000);
+        assert_same(&rt, items, 4000);
         assert!(rt; calls <= 120 + 100 * each, "{calls} calls, {each}");
     }
     Ok(())
@@ -46,7 +47,7 @@ fn twice_the_entries_take_at_most_twice_the_calls(rt: HostRuntime) -> Result<(),
     ] {
         let (items, calls) = counts(rt.alloc(), sort, entries)?;
         let (twice, more) = counts(rt.alloc(), sort, entries.wrapping_mul(2))?;
-        assert_eq!(rt; twice, items.wrapping_mul(2));
+        assert_same(&rt, twice, items.wrapping_mul(2));
         assert!(rt; more <= calls.wrapping_mul(2), "{calls} calls, then {more}");
     }
     Ok(())
@@ -82,8 +83,8 @@ fn keys_of_one_hash_are_compared_with_one_another(rt: HostRuntime) -> Result<(),
     // Each but the first is read, and those that were kept before it.
     let (others, calls) = counts(rt.alloc(), Sort::Plain, 8)?;
     let (alike, more) = counts_alike(rt.alloc())?;
-    assert_eq!(rt; (others, alike), (8, 8));
-    assert_eq!(rt; more, calls.wrapping_add(7 + 28));
+    assert_same(&rt, (others, alike), (8, 8));
+    assert_same(&rt, more, calls.wrapping_add(7 + 28));
     Ok(())
 }
 

@@ -4,6 +4,7 @@ use blk_io::{Failed, FileId, Folder, MemFolder, SilentFolder};
 use std::alloc::Global;
 use std::test::Fail;
 use test_folders::folders::{HEAD, Mem, NODE_NEXT, audited, dropped_at, put_words};
+use test_same::assert_same;
 
 // The blocks of a full block file.
 const FULL: u32 = 64896;
@@ -122,7 +123,7 @@ fn the_longest_list_and_a_long_chain_are_followed(rt: HostRuntime) -> Result<(),
     ] {
         let mut f = folder(rt.alloc(), nodes, records)?;
         let found = last_dropped(rt.alloc(), &mut f, dropped)?;
-        assert_eq!(rt; found, (walked, [last, (0, 0)]));
+        assert_same(&rt, found, (walked, [last, (0, 0)]));
     }
     Ok(())
 }

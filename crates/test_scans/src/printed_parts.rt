@@ -7,6 +7,7 @@ use blk_io::{MemFolder, SilentFolder};
 use std::test::Fail;
 use test_folders::folders::Change::Index;
 use test_folders::folders::{OPERATION, TRANSACTION, change_all};
+use test_same::assert_same_at;
 
 // The parts of a folder with no entry.
 const OF_NONE: [(Part, &str); 7] = [
@@ -106,7 +107,12 @@ fn a_sink_that_fails_has_a_front(rt: HostRuntime) -> Result<(), Fail> {
         let mut f = twins(rt.alloc())?;
         let (answer, is_front) = cut(rt.alloc(), &mut f, call, text)?;
         assert!(rt; is_front, "call {call}");
-        assert_eq!(rt; answer, Err(InspectFault::Sink), "call {call}");
+        assert_same_at(
+            &rt,
+            answer,
+            Err(InspectFault::Sink),
+            format_args!("call {call}"),
+        );
     }
     Ok(())
 }

@@ -17,6 +17,7 @@ use test_folders::mended::{changed, mend};
 use test_folders::stopped::{PUT_BACK, STOPPED};
 use test_folders::stopping::{Mem, again, empty};
 use test_folders::worked::{IEV, NAB};
+use test_same::assert_same;
 
 // The words of the index that are written where nothing is to be repaired: this_id and crash.
 const INDEX_WORDS: u64 = 2;
@@ -124,7 +125,7 @@ fn first_left(alloc: Global, tables: &[&[Case]]) -> Result<Option<(usize, usize)
 
 #[test]
 fn repair_mends_what_is_damaged(rt: HostRuntime) -> Result<(), Fail> {
-    assert_eq!(rt; first_left(rt.alloc(), &TABLES)?, None);
+    assert_same(&rt, first_left(rt.alloc(), &TABLES)?, None);
     Ok(())
 }
 
@@ -163,7 +164,7 @@ fn an_index_of_the_first_version_is_raised_by_few_words(rt: HostRuntime) -> Resu
     for (changes, words) in PUT_BACK.iter().zip([3, 4, 5, 6]) {
         assert!(rt; is_raised(rt.alloc(), changes)?);
         let steps = steps_of(rt.alloc(), true, changes, MOST_STEPS)?;
-        assert_eq!(rt; steps, Some(words));
+        assert_same(&rt, steps, Some(words));
     }
     Ok(())
 }
@@ -193,7 +194,7 @@ fn repair_deletes_what_nothing_names_and_ends_what_does_not_count(
     ];
     let mut f = changed(rt.alloc(), false, &others, u64::MAX)?;
     let mended = mended_words(rt.alloc(), &mut f)?;
-    assert_eq!(rt; mended, (0, [None, None, Some(20000)]));
+    assert_same(&rt, mended, (0, [None, None, Some(20000)]));
     let mut f = empty(rt.alloc());
     make(&mut f, 7)?;
     change_all(
@@ -201,7 +202,7 @@ fn repair_deletes_what_nothing_names_and_ends_what_does_not_count(
         &[Index(TRANSACTION, 0x9000_0005), Index(OPERATION, 1)],
     )?;
     let mended = mended_words(rt.alloc(), &mut f)?;
-    assert_eq!(rt; mended, (0, [None; 3]));
+    assert_same(&rt, mended, (0, [None; 3]));
     Ok(())
 }
 
@@ -226,9 +227,10 @@ fn repair_answers_a_damage_and_a_failure(rt: HostRuntime) -> Result<(), Fail> {
     let damage = Damage { file, at, found: 1 };
     let spoiled = answer_of(rt.alloc(), &[Word(IEV, SEAL, 1)], u64::MAX)?;
     let failed = answer_of(rt.alloc(), &[], 0)?;
-    assert_eq!(rt;
+    assert_same(
+        &rt,
         [spoiled, failed],
-        [Some(Fault::Damaged(damage)), Some(Fault::Device)]
+        [Some(Fault::Damaged(damage)), Some(Fault::Device)],
     );
     Ok(())
 }

@@ -1,5 +1,6 @@
 // Limits from outside.
 use blk_model::limits;
+use test_same::assert_same;
 
 #[test]
 fn limits_are_refused_outside_their_bounds(rt: HostRuntime) {
@@ -17,7 +18,7 @@ fn limits_keep_their_numbers(rt: HostRuntime) {
         (1099511627776, 131072),
     ] {
         let numbers = numbers_of(max_bytes, max_items);
-        assert_eq!(rt; numbers, Some((max_bytes, max_items)));
+        assert_same(&rt, numbers, Some((max_bytes, max_items)));
     }
 }
 

@@ -6,6 +6,7 @@ use blk_run::{Status, session};
 use itoa::Buffer;
 use std::alloc::Global;
 use std::test::Fail;
+use test_same::assert_same;
 
 // As many pages as the program keeps.
 const PAGES: u16 = 64;
@@ -58,14 +59,14 @@ fn a_long_session_reads_its_folder_a_tenth_as_often(rt: HostRuntime) -> Result<(
     let lines = lines(rt.alloc())?;
     let mut alone = newly_traced(MemFolder::without_trail(rt.alloc()));
     let (status, printed) = play(rt.alloc(), &mut alone, &lines)?;
-    assert_eq!(rt; status, Status::Ok);
+    assert_same(&rt, status, Status::Ok);
     let behind = newly_traced(MemFolder::without_trail(rt.alloc()));
     let mut window = window_over(rt.alloc(), behind, PAGES)?;
     let (status, printed_then) = play(rt.alloc(), &mut window, &lines)?;
-    assert_eq!(rt; status, Status::Ok);
-    assert!(rt; printed.written() == printed_then.written());
+    assert_same(&rt, status, Status::Ok);
+    assert_same(&rt, printed.written(), printed_then.written());
     let behind = window.into_inner();
-    assert_eq!(rt; behind.trail, alone.trail);
+    assert_same(&rt, behind.trail, alone.trail);
     let [reads, reads_alone] = [behind.reads, alone.reads];
     assert!(rt;
         reads <= reads_alone / 10,
@@ -74,6 +75,6 @@ fn a_long_session_reads_its_folder_a_tenth_as_often(rt: HostRuntime) -> Result<(
 
     // All other calls are passed on.
     let others = behind.inner.calls().wrapping_sub(reads);
-    assert_eq!(rt; others, alone.inner.calls().wrapping_sub(reads_alone));
+    assert_same(&rt, others, alone.inner.calls().wrapping_sub(reads_alone));
     Ok(())
 }

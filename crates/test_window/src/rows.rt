@@ -6,6 +6,7 @@ use blk_run::{Status, session};
 use std::alloc::Global;
 use std::test::Fail;
 use test_folders::inputs::{Pieces, text_of};
+use test_same::assert_same;
 
 // An input limit of more bytes than any of these inputs has.
 const BUDGET: u64 = 100_000;
@@ -242,8 +243,8 @@ fn is_the_same(alloc: Global, row: &Row<'_>) -> Result<(Status, MemSink, bool), 
 fn sessions_print_and_write_the_same_over_two_pages(rt: HostRuntime) -> Result<(), Fail> {
     for row in &ROWS {
         let (status, out, same) = is_the_same(rt.alloc(), row)?;
-        assert_eq!(rt; out.written(), row.printed);
-        assert_eq!(rt; status, row.status);
+        assert_same(&rt, out.written(), row.printed);
+        assert_same(&rt, status, row.status);
         assert!(rt; same);
     }
     Ok(())
