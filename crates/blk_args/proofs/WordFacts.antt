@@ -32,7 +32,7 @@ pub record IsPlain (word : List ℕ) : Type 0 where
   pub no_long : long_of word ≡ None
   pub no_short : short_of word ≡ None
 
--- an argument as its kind says it is written
+-- an argument, written as its kind has it
 abbrev pub IsWritten : List ℕ → Word → Type 0
 IsWritten word ends = word ≡ codes "--"
 IsWritten word (names limit) = word ≡ option_word limit

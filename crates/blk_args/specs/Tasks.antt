@@ -31,10 +31,11 @@ pub data Task : Type 0 where
 abbrev pub most_turns : ℕ
 most_turns = 100000
 
--- a key, and below a stream, spelled as in a script line
+-- a key, spelled as in a script line
 abbrev pub key_word : List ℕ → Option (List ℕ)
 key_word word = result_ok (key_field word)
 
+-- the number of a stream, spelled as in a script line
 abbrev pub stream_word : List ℕ → Option ℕ
 stream_word word = result_ok (stream_field word)
 

@@ -31,14 +31,14 @@ pub enum Order<'w> {
     Put { key: &'w [u8], stream: u8 },
     /// `doom KEY`: the entry with the key is doomed.
     Doom { key: &'w [u8] },
-    /// `trim BYTES`: items are evicted until so many bytes are left.
+    /// `trim BYTES`: items are evicted until no more than these bytes are left.
     Trim { bytes: u64 },
     /// `inspect index`, `inspect file N`, `inspect address WORD`, `inspect list`, `inspect chain BUCKET` and `inspect entry WORD`: a
     /// part of the folder is printed.
     Inspect { part: Part },
     /// `verify`: what the folder holds is checked and printed.
     Verify,
-    /// `gen SEED TURNS`: so many iterations of a generator are played.
+    /// `gen SEED TURNS`: this many iterations of a generator are played.
     Generate { seed: u64, turns: u32 },
 }
 

@@ -158,6 +158,6 @@ none-there bindings handle r e none = by (binding_of bindings handle) refl where
 pub opened-stands : (files : BlockFiles) (bindings : Bindings) → AreBoundAmong files bindings → (handle : ℕ) (object : OpenObject) → IsOpened bindings handle object → (is_node_among files object.node ≡ true) × (is_record_among files object.entry ≡ true)
 opened-stands files bindings stand handle object o = subst (λ (x : OpenObject). (is_node_among files x.node ≡ true) × (is_record_among files x.entry ≡ true)) (sym o.opened) (stand handle o.b o.bound)
 
--- an answer that there is none, where no early refusal says so
+-- where there is no early refusal, any claim on it holds
 pub none-early : (bindings : Bindings) (handle stream : ℕ) (P : Refusal → Type 0) → early_stream_refusal bindings handle stream ≡ None → IfSome (early_stream_refusal bindings handle stream) P
 none-early bindings handle stream P e = subst (λ (o : Option Refusal). IfSome o P) (sym e) tt

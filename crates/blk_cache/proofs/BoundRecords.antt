@@ -218,7 +218,7 @@ module _ (state : State) (layout : Layout) (unlinked : List ℕ) (image : Image)
       let at : m.contents ≡ b.entry = sym facts.facts.contents_is ∙ sym is.entry in
       subst (λ (w : ℕ). RecordChecks w image) at (record_checks image m.contents bytes (shown-kind image m.contents e facts.entry) (ap (λ (z : RecordFields). z.checks) (shown-fields image m.contents e facts.entry) ∙ facts.checks)))
 
-  -- and says what it is
+  -- its record has the kind, the sizes and the cost of the object
   pub bound-says : SaysObject image b.entry is.object
   bound-says =
       load-then {P = SaysObject image b.entry is.object} (store_of image) (rule_of layout b.node) b.node is.loaded (k.represents.holds.shows.each b.node is.loaded bound-node)

@@ -17,7 +17,7 @@ use Rattle.blk_cache.specs.Opening.{IfOpenDamaged, IfOpenDevice, IfOpenMemory, o
 is-err : {B : Type 0} (q : Result B OpenFault) (o : OpenFault) → IsErrAnd q (λ (x : OpenFault). x ≡ o) → q ≡ Err o
 is-err q o is = let p = err_from_is_err_and q is in p.1 ∙ ap (λ (x : OpenFault). Err x) p.2
 
--- what a fault says, an opening says that hands it on
+-- what is claimed of a fault holds of an opening that hands it on
 module _ {B : Type 0} (q : Result B OpenFault) (e : Fault) (is : IsErrAnd q (λ (x : OpenFault). x ≡ of_fault e)) where
   pub damaged-on : (P : Damage → Type 0) → IfDamaged {A = Damage} (Err e) P → IfOpenDamaged q P
   damaged-on P h = subst (λ (r : Result B OpenFault). IfOpenDamaged r P) (sym (is-err q (of_fault e) is)) (by_fault e h) where
@@ -73,7 +73,7 @@ open-damaged-weaker (Err Device) P Q f h = tt
 open-damaged-weaker (Err (Damaged damage)) P Q f h = f damage h
 open-damaged-weaker (Err Memory) P Q f h = tt
 
--- what a premise leads to of a failed check, a failed check says under the premise
+-- where a premise leads to a claim on a failed check, the failed check has the claim under the premise
 pub open-damaged-where : {B : Type 0} (q : Result B OpenFault) (A : Type 0) (P : Damage → Type 0) → (A → IfOpenDamaged q P) → IfOpenDamaged q (λ damage. A → P damage)
 open-damaged-where (Ok b) A P h = tt
 open-damaged-where (Err Device) A P h = tt

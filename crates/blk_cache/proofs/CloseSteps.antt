@@ -69,7 +69,7 @@ free-there bindings handle r e none = by (binding_of bindings handle) refl where
   by None is = is
   by (Some b) is = absurd (let c : true ≡ false = sym (ap is_some (e ∙ ap (option_map (open_object bindings)) is)) ∙ none in cc)
 
--- it was the last name of its object
+-- the handle was the last name of its object
 pub record WasLast (bindings now : Bindings) (b : Binding) (object : OpenObject) : Type 0 where
   pub last : is_open now b.entry ≡ false
   pub object_is : object ≡ open_object bindings b
@@ -81,7 +81,7 @@ was-last bindings now handle b bound r object is says = by (is_open now b.entry)
   by true e h = absurd (let c : released.Last object ≡ released.More = h ∙ ap (λ (t : Bool). if t then released.More else released.Last (open_object bindings b)) e in cc)
   by false e h = record { last = e; object_is = (let c : released.Last object ≡ released.Last (open_object bindings b) = h ∙ ap (λ (t : Bool). if t then released.More else released.Last (open_object bindings b)) e in cc) }
 
--- or it wasn't
+-- where the handle wasn't the last name, the object is still open
 pub was-more : (bindings now : Bindings) (handle : ℕ) (b : Binding) → binding_of bindings handle ≡ Some b → (r : Released) → r ≡ released.More
     → IfSome (binding_of bindings handle) (λ d. r ≡ (if is_open now d.entry then released.More else released.Last (open_object bindings d))) → is_open now b.entry ≡ true
 was-more bindings now handle b bound r is says = by (is_open now b.entry) refl (sym is ∙ subst (λ (o : Option Binding). IfSome o (λ d. r ≡ (if is_open now d.entry then released.More else released.Last (open_object bindings d)))) bound says) where

@@ -239,7 +239,7 @@ module _ (cache : Cache) (state : State) (from : Image) (k : HoldsState cache st
         (sum-set charge state.objects number is.object (record is.object { settled = true }) is.here (settled-charge is.object))
         others frees charges)
 
-  -- and where the object is doomed, and gone with its last name
+  -- where the object is doomed, and freed with its last name
   module _ (last : is_named less number ≡ false) (dead : is.object.live ≡ false) where
     pub node-doomed : node_of_object k.layout number is.object ≡ k.layout.place_of_doomed number
     node-doomed = ap (λ (t : Bool). if t then k.layout.place (main is.object.key) else k.layout.place_of_doomed number) dead

@@ -31,7 +31,7 @@ use Rattle.blk_object.proofs.MakingCreates.{creates-can}
 use Rattle.blk_cache.specs.CreatingLaws.{CreatesHaveRoom, CreatesWantRoomForOneItem}
 use Rattle.blk_cache.proofs.Creates.{items-after, total-after}
 
--- ---- what goes
+-- ---- what is evicted
 
 clash : true ≡ false → ⊥
 clash h = cc
@@ -54,7 +54,7 @@ left-behind i j list apart there =
     let z : ◌≡◌ {A = ℕ} (cond (same_item i j) 1 0) 0 = ap (λ (b : Bool). cond {A = ℕ} b 1 0) apart in
     omega (arith, c, z, there)
 
--- each listed item that need not stay is in an eviction unit that could go
+-- each listed item that need not stay is in an eviction unit that may be evicted
 goes : (stays : Item → Bool) (list : List Item) (item : Item) → 1 ≤ times item list → stays item ≡ false → is_out (groups_from_back stays list) item ≡ true
 unfolding groups_from_back
 goes stays [] item there free = let none : times item [] ≡ 0 = refl in absurd (omega (arith, there, none))
@@ -86,7 +86,7 @@ either-not : (a b : Bool) → (a ≡ true → ⊥) → b ≡ false → (a || b) 
 either-not true b never e = absurd (never refl)
 either-not false b never e = e
 
--- a part that need not go is in none of the eviction units, where its main item need not
+-- a part that stays is in none of the eviction units, where its main item stays too
 pub loose-part : (stays : Item → Bool) (groups : List Group) (key : List ℕ) (n : ℕ) → AllByRecursion (IsLoose stays) groups → stays (part key n) ≡ true → stays (main key) ≡ true → is_out groups (part key n) ≡ false
 loose-part stays [] key n all held main_held = refl
 loose-part stays (whole other parts ∷ groups) key n all held main_held =
@@ -100,7 +100,7 @@ alike true false o e = e
 alike false true o e = sym e
 alike false false o e = refl
 
--- eviction units go until there is enough, or all are out
+-- eviction units are evicted until there is enough, or all are out
 shortest-ends : (enough : List Group → Bool) (done groups : List Group) → (enough (shortest enough done groups) ≡ true) ⊎ (shortest enough done groups ≡ done ++ groups)
 shortest-ends enough done [] = inr (sym (append-nil done))
 shortest-ends enough done (group ∷ groups) = ⊎_elim
@@ -152,7 +152,7 @@ times-back : (item : Item) (list : List Item) → times item (reverse list) ≡ 
 times-back item list = sum_by-IsPermutation (λ i. cond (same_item item i) 1 0) list (reverse list) (IsPermutation-reverse list)
 
 module _ (state : State) (valid : IsValidState state) (covered : List Item) where
-  -- all eviction units that could go
+  -- all eviction units that may be evicted
   abbrev all : List Group
   all = groups_from_back (is_pinned state covered) (reverse state.uses)
 

@@ -50,7 +50,7 @@ put-at {A = A} values place value = go (place == place) (eq-eqb place place refl
   go true e = refl
   go false e = absurd (let c : false ≡ true = e in cc)
 
--- what lies at a node that doesn't go is as it was
+-- what lies at a node that isn't removed is as it was
 stays-at : (at : ℕ → Option Loaded) (gone : List ℕ) (node : ℕ) → is_among gone node ≡ false → (if is_among gone node then None else at node) ≡ at node
 stays-at at gone node off = ap (λ (b : Bool). if b then None else at node) off
 
@@ -154,11 +154,11 @@ module _ (state : State) (layout : Layout) (unlinked : List ℕ) (image : Image)
           (λ (e : bytes_eq object.key o.key ≡ false). ap not e)
           (cases_Bool (bytes_eq object.key o.key))
 
-  -- as a doomed object, without parts
+  -- the object is doomed, and has no parts
   pub doomed-on : is_named state number ≡ true → (chains : ℕ → List ℕ) (owner : Claim → Option ℕ) → NamedObjectsLieOn state (doomed number state (Some object)) layout (placed_doomed layout number (layout.place (main object.key)) layout.at chains owner)
   doomed-on held chains owner = held-on state number object here live held layout layout.at chains owner (λ n o there named. refl)
 
-  -- and with parts, which go
+  -- the object is doomed, and its parts are removed
   pub parts-on : is_named state number ≡ true → (chains : ℕ → List ℕ) → NamedObjectsLieOn state (doomed number state (Some object)) layout (layout_doomed_whole state layout number object.key chains)
   parts-on held chains = held-on state number object here live held layout (at_without layout (part_nodes state layout object.key)) chains (owners_without layout (part_nodes state layout object.key)) (λ n o there named.
       stays-at layout.at (part_nodes state layout object.key) (node_of_object layout n o)

@@ -1,4 +1,4 @@
--- Eviction units go one after another: what is out while the loop runs.
+-- Eviction units are evicted one after another: what is out while the loop runs.
 use Rattle.std.proofs.Common.{◌≡◌, ◌⊎◌, ℕ, ◌+◌, ◌≤◌, Bool, true, false, not, ◌||◌, cond, List, [], ◌∷◌, ◌++◌, length, map, Option, Some, None, Result, Ok, Err, refl, sym, ap, subst, ◌∙◌, arith, inl, inr, append_assoc, append-nil, ⊎_elim}
 use Rattle.std.specs.Option.{ForSome, option_map}
 use Rattle.std.specs.List.{AllByRecursion, filter, flat_map}
@@ -193,11 +193,11 @@ module _ (enough : State → Bool) (state : State) (covered : List Item) (parts 
   others-are : evicted_until enough (without h.first state) covered ≡ h.others
   others-are = others-next enough state covered h.first h.others valid h.split
 
-  -- all that goes is out
+  -- all that is to be evicted is out
   pub all-gone : (enough (without h.first state) ≡ true) ⊎ AreAllPinned (without h.first state) covered → evicted_until enough state covered ≡ h.first
   all-gone why = h.split ∙ ap (λ (gs : List Group). h.first ++ gs) (sym others-are ∙ nothing-more enough (without h.first state) covered why) ∙ append-nil h.first
 
-  -- as many items as there were have gone, so none is left
+  -- as many items as there were are evicted, so none is left
   pub ran-out : old.items ≤ turns → AreAllPinned (without h.first state) covered
   ran-out enough_turns =
       let few = uses-few (without h.first state) h.at.kept.layout [] h.image h.at.kept.kept.entries in

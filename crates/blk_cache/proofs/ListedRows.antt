@@ -39,7 +39,7 @@ pub rows-counted : (state : State) (layout : Layout) (image : Image) → Keeps s
 unfolding rows
 rows-counted state layout image k = counted (row_of state) state.uses (λ item among. let p = k.entries.represents.holds.lies.laid item among in (_, p.row))
 
--- so the word of the index says how many there are
+-- so the word of the index is the number of rows
 pub rows-said : (state : State) (layout : Layout) (image : Image) → Keeps state layout [] image → word image Index 268 ≡ length (rows state)
 rows-said state layout image k = its-nodes (byte image Index) (length state.uses) (charged state layout) k.counters ∙ sym (rows-counted state layout image k)
 

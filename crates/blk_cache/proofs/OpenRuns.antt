@@ -227,6 +227,6 @@ scanned-can files scan image well open_now told = record { well_formed = well; s
 pub untold-as : (e : Fault) (a b : Told) → b ≡ a → IfDamaged {A = Told} (Err e) (λ _. b.files ≡ None) → IfDamaged {A = Told} (Err e) (λ _. a.files ≡ None)
 untold-as e a b same cause = if_damaged_weaker {A = Told} (Err e) (λ _. b.files ≡ None) (λ _. a.files ≡ None) (λ damage none. sym (ap (λ (t : Told). t.files) same) ∙ none) cause
 
--- a failed check that comes only of an opaque folder says anything of an observable one
+-- where only an opaque folder reports corruption, any claim on an observable one holds
 pub untold-says : (e : Fault) (a : Told) (old : Option Image) (P : blk.Damage → Image → Type 0) → ((image : Image) → old ≡ Some image → a.files ≡ Some image) → IfDamaged {A = Told} (Err e) (λ _. a.files ≡ None) → IfDamaged {A = Told} (Err e) (λ damage. ForSome old (P damage))
 untold-says e a old P handed cause = if_damaged_weaker {A = Told} (Err e) (λ _. a.files ≡ None) (λ damage. ForSome old (P damage)) (λ damage none image there. told-some a image (handed image there) none) cause

@@ -142,7 +142,7 @@ evicted-kept state front item behind there old new from image k is gone =
       };
     }
 
--- where an item goes alone, or a whole object, the objects that handles name lie where they lay
+-- where an item is evicted alone, or a whole object is, the objects that handles name lie where they lay
 pub lie-apart : NamedObjectsLieApart
 lie-apart cache state image front item behind contents k is = alone-apart state k.layout [] image front item behind contents k.kept.entries is
 

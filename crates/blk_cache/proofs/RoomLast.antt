@@ -29,7 +29,7 @@ use Rattle.blk_evict.proofs.RoomGroups.{in-middle, last-goes}
 use Rattle.blk_cache.proofs.CoveredParts.{pinned-both}
 use Rattle.blk_cache.proofs.RoomBound.{record-pinned}
 
--- so many items at least are pinned from a node on
+-- at least `count` items are pinned from a node on
 pub record IsPinnedSoFar (state : State) (layout : Layout) (covered : List Item) (behind : Option ℕ) (count : ℕ) : Type 0 where
   pub from : IsPinnedFrom state layout covered behind
   pub many : count ≤ length from.rest
@@ -63,7 +63,7 @@ length-both : (front rest : List Item) → length (front ++ rest) ≡ length fro
 length-both [] rest = omega arith
 length-both (i ∷ front) rest = let e = length-both front rest in omega (arith, e)
 
--- the record that the node says
+-- the record that the node names
 said-contents : (image : Image) (w : ℕ) (n : NodeFields) → node_fields_at image w ≡ Some n → stands_as image rankings w ≡ true → (node_at image w).contents ≡ n.contents
 unfolding node_fields_at
 said-contents image w n e stands = ap (λ (f : NodeFields). f.contents) (some_inj (rw stands at e))

@@ -27,7 +27,7 @@ unfolding without
 limits-left [] state = refl
 limits-left (group ∷ groups) state = refl
 
--- the low watermark is the same, whatever has gone
+-- the low watermark is the same, whatever was evicted
 met-same : (bytes more : ℕ) (groups : List Group) (state : State) → is_met (goal.Room bytes more) (without groups state) ≡ fits (low state) bytes more (without groups state)
 met-same bytes more groups state = ap (λ (l : Bounds). nat_le (total (without groups state) + bytes) (l.max_bytes - l.max_bytes / free_share) && nat_le (items (without groups state) + more) (without groups state).limits.max_items) (limits-left groups state)
 

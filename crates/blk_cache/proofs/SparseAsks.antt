@@ -80,7 +80,7 @@ module _ (bindings : Bindings) (handle offset count : ℕ) (passes : early_spars
   pub goes-live : (b : Binding) → binding_of bindings handle ≡ Some b → b.doomed ≡ false
   goes-live b e = sym (ap dooms-it e) ∙ not-fourth (is_none (binding_of bindings handle)) (nat_lt 1048576 count) (past_end offset count) (dooms-it (binding_of bindings handle)) refusal.BadHandle refusal.TooLarge refusal.RangeEnd refusal.Doomed passes
 
--- an answer that there is none, where no early refusal says so
+-- where there is no early refusal, any claim on it holds
 pub nothing-early : (bindings : Bindings) (handle offset count : ℕ) (P : Refusal → Type 0) → early_sparse_refusal bindings handle offset count ≡ None → IfSome (early_sparse_refusal bindings handle offset count) P
 nothing-early bindings handle offset count P e = subst (λ (o : Option Refusal). IfSome o P) (sym e) tt
 

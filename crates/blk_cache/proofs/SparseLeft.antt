@@ -44,7 +44,7 @@ module _ (state : State) (valid : IsValidState state) (number : ℕ) (object : O
   abbrev pub left : Object
   left = record object { parts = kept_parts groups object }
 
-  -- it is there without the parts that went
+  -- the object is there without the parts that were evicted
   pub left-here : object_at (without groups state) number ≡ Some left
   left-here =
       ap (λ (slots : List (Option Object)). get_or slots number None) (objects-without state groups) ∙ map_at (left_of groups) state.objects number

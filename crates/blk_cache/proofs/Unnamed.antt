@@ -18,7 +18,7 @@ use Rattle.law_state.specs.KeepingLaws.{AllAreAtRest}
 use Rattle.blk_handles.specs.Bindings.{Binding, all_free, binding_of, distinct_count, entries_of, open_count}
 use Rattle.blk_cache.specs.CacheKeeping.{named_from, named_objects}
 
--- no slot of so many that are free has anything
+-- no slot of a table of free ones has anything
 pub free-at : {A : Type 0} (count i : ℕ) → get_or {A = Option A} (replicate count None) i None ≡ None
 free-at zero i = refl
 free-at (suc count) zero = refl

@@ -27,7 +27,7 @@ use Rattle.blk_cache.proofs.Sizes.{named-object}
 
 -- ---- lengths
 
--- so many zeros
+-- n zeros
 abbrev zeros : ℕ → List ℕ
 zeros n = replicate n 0
 

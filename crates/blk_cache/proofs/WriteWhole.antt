@@ -59,7 +59,7 @@ module _ (moment : ℕ) (request : Request) (cache : Cache) (told : Told) (faile
   pub refused-says : (why : Refusal) → ForKept (HoldsState cache) told (λ state. refused moment request state ≡ Some why) → SaysEvicted cache told moment request failed_before failed_before old old
   refused-says why is image there state k = subst (λ (groups : List Group). PrintsUnlessFailed failed_before failed_before old old (evicted_text groups)) (sym (refused-groups state why (is image there state k))) (none-printed failed_before old)
 
-  -- nor does what fails before
+  -- nor is anything printed where the request fails before
   pub front-before : SaysPrefix (HoldsState cache) told moment request old old
   front-before image there state k = record { front = []; rest = evicted_text (step state moment request).groups; split = refl; written = none-behind old }
 

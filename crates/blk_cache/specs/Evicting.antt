@@ -1,4 +1,4 @@
--- Eviction units go one after another, until a goal is met.
+-- Eviction units are evicted one after another, until a goal is met.
 use Rattle.std.specs.Prelude.{◌≡◌, ℕ, Bool, List, [], ◌∷◌, ◌++◌, length, nat_le, sum_by}
 use Rattle.std.specs.Option.{ForSome}
 use Rattle.std.specs.declared.option.Option.{Option}
@@ -31,7 +31,7 @@ is_met (Bytes most) state = nat_le (total state) most
 abbrev pub count_of_groups : List Group → ℕ
 count_of_groups groups = sum_by (λ group. length (items_of_group group)) groups
 
--- while eviction units of a state go one after another, recovery gives the durable contents without a prefix of them
+-- while eviction units of a state are evicted one after another, recovery gives the durable contents without a prefix of them
 pub record IsEvicting (groups : List Group) (state : State) (image : Image) : Type 0 where
   pub first : List Group
   pub others : List Group
@@ -62,7 +62,7 @@ pub record KeepsThatMayGo (cache : Cache) (found : Unpinned) (image : Image) : T
   pub kept : HoldsState cache state image
   pub at : MayGoAt state kept.layout found
 
--- What a call does that evicts: each of these takes what the call left first, and then the state before and the eviction units that go.
+-- What a call does that evicts: each of these takes what the call left first, and then the state before and the eviction units that are evicted.
 
 -- the new cache keeps the state without the units
 abbrev pub EvictedBy : (new : Cache) → (now : Told) → State → List Group → Type 0
@@ -80,7 +80,7 @@ PrintedBy failed_before failed written old new state groups = PrintsUnlessFailed
 abbrev pub BegunBy : {S : Type 0} → (written : S → Option (List ℕ)) → (old new : S) → State → List Group → Type 0
 BegunBy written old new state groups = Appends (written old) (written new) (evicted_text groups)
 
--- P, one of these, holds of the units that go until the goal is met
+-- P, one of these, holds of the units that are evicted until the goal is met
 abbrev pub ForGoal : Cache → Covered → Told → Goal → (State → List Group → Type 0) → Type 0
 ForGoal cache parts told goal P = ForCovered cache parts told (λ state covered. P state (evicted_until (is_met goal) state covered))
 

@@ -17,14 +17,14 @@ abbrev pub says_full : Room → Bool
 says_full Full = true
 says_full Made = false
 
--- P holds of each state that the cache keeps in which there is space for so many more bytes and items, with the eviction units that go for them
+-- P holds of each state that the cache keeps in which there is space for so many more bytes and items, with the eviction units that are evicted for them
 abbrev pub ForRoom : Cache → Covered → Told → (bytes more : ℕ) → (State → List Group → Type 0) → Type 0
 ForRoom cache parts told bytes more P = ForCovered cache parts told (λ state covered. is_full (room state covered bytes more) ≡ false → P state (evicted_for (room state covered bytes more)))
 
--- P holds of the eviction units that go for so many more bytes and items, in each state that the cache keeps
+-- P holds of the eviction units that are evicted for so many more bytes and items, in each state that the cache keeps
 abbrev pub ForMaking : Cache → Told → (bytes more : ℕ) → (State → List Group → Type 0) → Type 0
 ForMaking cache told bytes more P = ForKept (HoldsState cache) told (λ state. P state (evicted_for (room state [] bytes more)))
 
--- P holds of those that go where the items in range at the nodes of `parts` stay
+-- P holds of the eviction units that are evicted where the items in range at the nodes of `parts` stay
 abbrev pub ForMakingBeside : Cache → Covered → Told → (bytes more : ℕ) → (State → List Group → Type 0) → Type 0
 ForMakingBeside cache parts told bytes more P = ForCovered cache parts told (λ state covered. P state (evicted_for (room state covered bytes more)))

@@ -46,7 +46,7 @@ ForRange cache told range P = ForRead cache told range.handle range.stream range
 abbrev pub KeepsRange : Cache → ReadRange → Image → Type 0
 KeepsRange cache range image = KeepsToRead cache range.handle range.stream range.offset range.number image
 
--- an object may have a stream of this number, and the range doesn't go beyond the values of a u64
+-- an object may have a stream of this number, and the range ends within the values of a u64
 abbrev pub can_be_read : (stream offset number : ℕ) → Bool
 can_be_read stream offset number = nat_lt stream stream_count && nat_lt (offset + number) (2 ^ 64)
 

@@ -49,7 +49,7 @@ pub record IsLiveNamed (state : State) (layout : Layout) (handle node entry : �
   pub lies : layout.at (layout.place (main object.key)) ≡ Some was
   pub record_is : was.contents ≡ entry
 
--- the handle names a live plain object, and `found` says whether the object has no other stream than its first
+-- the handle names a live plain object, and `found` says whether the object has no bytes in stream 1 or 2
 pub record IsPlainNamed (state : State) (layout : Layout) (handle offset count : ℕ) (found : PlainObject) : Type 0 where
   pub passes : sparse_refusal state handle offset count ≡ None
   pub its : IsLiveNamed state layout handle found.node found.entry

@@ -83,7 +83,7 @@ KeepsToStoreFor cache request target more_bytes more_items image = KeepsToStore 
 abbrev pub index_charge : Target → ℕ
 index_charge target = if target.plain then parts_index_charge else 0
 
--- the cache counts so many items and bytes of cost more, and for the open objects the index of an object that was plain; it is otherwise unchanged
+-- the cache counts that many items and bytes of cost more, and for the open objects the index of an object that was plain; it is otherwise unchanged
 pub record CountsParts (old new : Cache) (target : Target) (more_bytes more_items : ℕ) : Type 0 where
   pub items : new.items ≡ sum_within old.items more_items
   pub bytes : new.bytes ≡ sum_within old.bytes more_bytes

@@ -29,7 +29,7 @@ use blk_model::{Answer, Refusal};
 
 impl Cache {
     /// Makes a new object with a key, to which it gives a handle name, once there is space for it; what is evicted for
-    /// that is printed as it goes.
+    /// that is printed as it is removed.
     ///
     /// It is refused with `BadKey` where the key has no bytes or more than 32768, `BadHandle` where the name is 4096 or
     /// more, `HandleBusy` where it is bound, `Exists` where a live object has the key, and `Full` where the open objects
@@ -162,7 +162,7 @@ impl Cache {
         ensures front { WhereNotRefused self.old (F.told folder.old) moment handle key.now (FrontBy K.written out.old out.new) }
         ensures fails { FailsWhereItRose failed.old failed.new (K.faults out.old) (K.faults out.new) }
 
-        // A refusal does nothing: none is left.
+        // No refusal is possible here.
         ensures quiet { IfOk result (λ answer. IsRefused answer → Stays (F.told folder.old) (F.told folder.new)) }
         ensures unchanged { IfOk result (λ answer. IsRefused answer → self.new ≡ self.old) }
 

@@ -23,7 +23,7 @@ use blk_io::{Fault, Folder};
 use blk_model::{Answer, Refusal};
 
 impl Cache {
-    /// Dooms the live object with a key: an open one as `doom` does, and of another all goes, with its parts.
+    /// Dooms the live object with a key: an open one as `doom` does; any other is removed whole, with its parts.
     ///
     /// It is refused with `BadKey` where the key has no bytes or more than 32768, and `Missing` where no live object has
     /// the key. After a fault nothing is promised of the cache but that it can be dropped.

@@ -109,11 +109,11 @@ pub fn doom_named<F: Folder>(
     doom_target(folder, files, &target, key, buffer, true)
 }
 
-/// Dooms a live object with a key, the names of whose parts are made in `buffer`. An open one, which a handle names, goes out
-/// with its parts, these are freed, and its record gets the state of a doomed one; of another all goes. What is counted no
-/// longer is given: the parts of an open object, and else all its items.
+/// Dooms a live object with a key, the names of whose parts are made in `buffer`. An open object, which a
+/// handle names, is unlinked with its parts, these are freed, and its record gets the state of a doomed one; any other is
+/// removed whole. What is counted no longer is given: the parts of an open object, and else all its items.
 ///
-/// A failed check is one of the calls below.
+/// A failed check is one of `doom_plain`, `remove_item`, `doom_parent`, `read_owned` or `remove_parent_with`.
 pub fn doom_target<F: Folder>(
     folder: &mut F,
     files: &BlockFiles,

@@ -36,12 +36,12 @@ impl Cache {
     ) -> Result<u64, Fault>
         requires is_open { ForSome (F.told folder.old).files (IsOpen self.old.files) }
 
-        // Each state that was kept is kept without the eviction units that go, and their items are counted and printed.
+        // Each state that was kept is kept without the eviction units that are evicted, and their items are counted and printed.
         ensures evicted { OnOk result (ForGoal self.old parts.now (F.told folder.old) goal.now (EvictedBy self.new (F.told folder.new))) }
         ensures counts { IfOk result (λ count. ForGoal self.old parts.now (F.told folder.old) goal.now (λ state groups. count ≡ count_of_groups groups)) }
         ensures prints { OnOk result (ForGoal self.old parts.now (F.told folder.old) goal.now (PrintedBy failed.old failed.new K.written out.old out.new)) }
 
-        // At each word a prefix of the eviction units that go is out; on any answer a prefix of their text was printed.
+        // At each word a prefix of the eviction units that are evicted is out; on any answer a prefix of their text was printed.
         ensures stops { ForGoal self.old parts.now (F.told folder.old) goal.now (EvictingBy (F.told folder.old) (F.told folder.new)) }
         ensures front { ForGoal self.old parts.now (F.told folder.old) goal.now (BegunBy K.written out.old out.new) }
 

@@ -28,7 +28,7 @@ impl Cache {
     /// The object that a handle names, for some bytes of sparse data from an offset on; a plain one gets the moment as its
     /// generation. Nothing is written.
     ///
-    /// The request is refused as by `ask_sparse`, and then with `NotSparse` where the object is plain and has more than one stream.
+    /// The request is refused as by `ask_sparse`, and then with `NotSparse` where the object is plain and has bytes in stream 1 or 2.
     pub(crate) fn ask_target<F: Folder>(
         &self,
         folder: &mut F,
@@ -67,7 +67,7 @@ fn asked_target(asked: AskedSparse, moment: u64) -> AskedTarget
     }
 }
 
-// A plain object gets sparse data if it has no other stream than its first.
+// A plain object gets sparse data if it has no bytes in stream 1 or 2.
 fn asked_plain(found: &PlainObject, moment: u64) -> AskedTarget
     ensures { result ≡ asked_plain moment found.now }
 {

@@ -37,14 +37,14 @@ pub(crate) struct SparseRequest<'a> {
 
 impl Cache {
     /// Writes some bytes of sparse data to the object that a handle names, from an offset on. Space for what is added is
-    /// made first, beside the parts in range; what is evicted for that is printed as it goes. Then the object
+    /// made first, beside the parts in range; what is evicted for that is printed as it is removed. Then the object
     /// becomes dirty; it becomes sparse where it is plain, with the moment as its generation; its item is put in front of
     /// the LRU list, and each part in range, made where there is none, gets its bytes and is put in front. Where there are
     /// no bytes the item is put in front, and nothing else is done.
     ///
     /// It is refused with `BadHandle` where the name is free, or 4096 or more, `TooLarge` where there are more than 1048576
     /// bytes, `RangeEnd` where they end after 68719476736, `Doomed` where the object is doomed, `NotSparse` where it is
-    /// plain and has bytes in its second or third stream, and `Full` where the open objects, the parts in range and what is
+    /// plain and has bytes in stream 1 or 2, and `Full` where the open objects, the parts in range and what is
     /// added exceed a limit, the first of these. After a fault nothing is promised of the cache but that it can be dropped.
     pub(crate) fn sparse_write<F: Folder, K: Sink>(
         &mut self,
@@ -271,13 +271,13 @@ impl Cache {
         ensures writes { MayWrite F.told F.faults folder.old folder.new (IfDevice result) }
         ensures sink_later { GoesOn K.is K.faults out.old out.new }
     {
-        // That what is kept is within the limits of its types is known once it is read.
+        // Reading it tells the prover that what is kept is within the limits of its types.
         let _bytes = self.kept_bytes();
         self.evict_for(folder, out, failed, rise.bytes, rise.items, &rise.parts)?;
         self.end_sparse_write(folder, request, target, rise.bytes, rise.items)
     }
 
-    // The bytes that are kept: that they are those of a u64 is known once they are read.
+    // How many bytes are kept: reading the number tells the prover that it is below 2^64.
     fn kept_bytes(&self) -> u64
         ensures are { result ≡ self.now.bytes }
         ensures few { self.now.bytes < 2 ^ 64 }

@@ -29,9 +29,9 @@ use blk_io::{Fault, Folder, Sink};
 use blk_model::{Answer, Command};
 
 impl Cache {
-    /// Does one command at a moment, in microseconds since 1970 UTC: what it evicts is printed as it goes, all is written,
-    /// it is noted that one command more is done, and then the reply is printed: the bytes of a Read or a SparseRead and
-    /// the rows of a List as the folder has them then.
+    /// Does one command at a moment, in microseconds since 1970 UTC: what it evicts is printed as it is removed, all is
+    /// written, it is noted that one command more is done, and then the reply is printed: the bytes of a Read or a
+    /// SparseRead and the rows of a List as the folder has them then.
     ///
     /// A refusal is an answer, and changes nothing; its note is made too.
     ///
@@ -61,17 +61,17 @@ impl Cache {
         // The session has its number still.
         ensures session { IfDone result (self.new.mark ≡ self.old.mark) }
 
-        // A command that is refused makes its note alone.
+        // Where the answer is a refusal, the note is the only step: this needs no kept state.
         ensures alone { IfOk result (λ answer. IsRefused answer → Applies (F.told f.old) (F.told f.new) (Note (note_number (self.old.notes + 1)) ∷ [])) }
 
-        // A command that the model refuses makes its note alone, also where only the output failed.
+        // Where the model refuses the command in a kept state, only the note is made, also where only the output failed.
         ensures refused { IfDone result (ForKept (KeepsState self.old) (F.told f.old) (λ state. is_refused (step state moment (request_of command.now)) ≡ true → Applies (F.told f.old) (F.told f.new) (Note (note_number (self.old.notes + 1)) ∷ []))) }
 
         // A Flush of a clean object makes its note alone.
         ensures idle { IfDone result (ForKept (KeepsState self.old) (F.told f.old) (λ state. FlushesClean state (request_of command.now) → Applies (F.told f.old) (F.told f.new) (Note (note_number (self.old.notes + 1)) ∷ []))) }
 
-        // What the command evicts is printed, and then the reply; where there is no answer, a prefix of it; where the folder failed nothing of the reply, and no
-        // step was made of a command that the model refuses; or it failed in the reply, after the note, which is the only step of such a command.
+        // What the command evicts is printed, and then the reply; where there is no answer, a prefix of it; where the folder failed nothing of the reply, and
+        // no step was made of a command that the model refuses; or it failed in the reply, after the note, which is the only step of such a command.
         ensures printed { OnOk result (ForKept (KeepsState self.old) (F.told f.old) (λ state. K.written out.new ≡ option_map (λ w. w ++ outcome_text (step state moment (request_of command.now))) (K.written out.old))) }
         ensures front { ForKept (KeepsState self.old) (F.told f.old) (λ state. Appends (K.written out.old) (K.written out.new) (outcome_text (step state moment (request_of command.now)))) }
         ensures unanswered { IfStepDevice result (FailsBefore (KeepsState self.old) (F.told f.old) (F.told f.new) moment (request_of command.now) (K.written out.old) (K.written out.new) ⊎ ForKept (KeepsState self.old) (F.told f.old) (NotesCommand (F.told f.old) (F.told f.new) (at_moment moment (request_of command.now)) (note_number (self.old.notes + 1)))) }

@@ -48,10 +48,10 @@ pub(crate) struct WriteRequest<'a> {
 }
 
 impl Cache {
-    /// Writes bytes over a stream of the object that a handle names, from an offset on, with zeros before them where it
-    /// ends there; it ends with them where it is cut, and else keeps what comes after them. Space for what it gets
-    /// longer is made first; what is evicted for that is printed as it goes. Then the object becomes dirty, and once it
-    /// is written its item is put in front of the LRU list. A doomed object has no item.
+    /// Writes bytes over a stream of the object that a handle names, from an offset on, with zeros before them where the
+    /// stream ends before the offset; it ends with them where it is cut, and else keeps what comes after them. Space for
+    /// what it gets longer is made first; what is evicted for that is printed as it is removed. Then the object becomes
+    /// dirty, and once it is written its item is put in front of the LRU list. A doomed object has no item.
     ///
     /// It is refused with `BadHandle` where the name is free, or 4096 or more, `BadStream` where the number of the stream
     /// is 3 or more, `TooLarge` where the bytes end past an eighth of the limit or past 2147483647, `SparseStream` where
@@ -135,8 +135,8 @@ impl Cache {
         Ok(Answer::Wrote(request.bytes.len() as u64))
     }
 
-    // Writes bytes over a stream of so many of the dirty object that the handle names; then the item of a live object is accessed, and the change of its cost
-    // is counted in the index; that of any object is counted in the cache.
+    // Writes bytes over a stream, of this size, of the dirty object that the handle names; then the item of a live object is accessed, and the change of its
+    // cost is counted in the index; that of any object is counted in the cache.
     fn write_to_dirty<F: Folder>(
         &mut self,
         folder: &mut F,
@@ -162,7 +162,7 @@ impl Cache {
         let Some(object) = self.handles.object(request.handle) else {
             unreachable!();
         };
-        // That they are bytes is known once they are counted.
+        // Counting them tells the prover that they are bytes.
         let _count = count_of(request.bytes);
         let after = length_after(request.cut, size, request.offset, request.bytes);
         write_object(
@@ -224,7 +224,7 @@ impl Cache {
         None
     }
 
-    // Counts a stream that had so many bytes and has so many after.
+    // Counts the change of a stream's length, from `before` bytes to `after`.
     fn count_bytes(&mut self, before: u64, after: u64)
         ensures counts { CountsRise self.old self.new before after }
         ensures few { self.old.bytes < 2 ^ 64 }
@@ -234,8 +234,8 @@ impl Cache {
     }
 }
 
-// Accesses the item of a live object whose stream had so many bytes and has so many after, and counts the difference in the index. A doomed object has no item,
-// and isn't counted there.
+// Accesses the item of a live object of which a stream got another length, and counts the difference in the index. A doomed object has no item, and isn't
+// counted there.
 fn use_and_count<F: Folder>(
     folder: &mut F,
     files: &BlockFiles,

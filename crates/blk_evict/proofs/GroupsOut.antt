@@ -191,7 +191,7 @@ module _ (state : State) (layout : Layout) (unlinked : List ℕ) (image : Image)
       let live : live_with state key ≡ Some o.number = ap (λ (i : Item). model.owner state i) (sym is) ∙ o.found in
       sym (ap (λ (w : Option ℕ). option_map_or (is_named state) w false) live) ∙ ap (is_pinned state []) (sym is) ∙ unpinned
 
--- ---- an item that goes alone
+-- ---- an item that is evicted alone
 
 -- the parts of an object that has none
 pub none-among : (key : List ℕ) (items : List Item) → ((n : ℕ) → is_in items (part key n) ≡ true → ⊥) → parts_among key items ≡ []
@@ -202,7 +202,7 @@ none-among key (part other n ∷ items) none = ⊎_elim
     (λ (e : bytes_eq key other ≡ false). ap (λ (b : Bool). cons_option (if b then Some n else None) (filter_map (part_number key) items)) e ∙ none-among key items (λ m there. none m (or_right (bytes_eq key other && m == n) (is_in items (part key m)) there)))
     (cases_Bool (bytes_eq key other))
 
--- a state without an item that goes alone, as it is without its eviction unit
+-- a state without an item that is evicted alone is the state without its eviction unit
 pub record GoesSo (state : State) (layout : Layout) (group : Group) (item : Item) (node entry : ℕ) (before : Option ℕ) : Type 0 where
   pub objects : List (Option Object)
   pub keep : Item → Bool

@@ -27,12 +27,12 @@ look-checked files told key damage (inr wrong) = go wrong.wrong
     go (inl head) = let parts = names-parts files wrong.entry wrong.stands in head-checked files told wrong.entry damage parts.1.0 parts.1.1 head
     go (inr node) = node-word-checked files told _ _ damage node
 
--- the bytes where a record says that its key lies are as many as it says
+-- the key that a record names has the length that the record says
 pub key-length-said : (image : Image) (entry : ℕ) → length (key_bytes image entry) ≡ (entry_at image entry).key_len
 unfolding key_bytes
 key-length-said image entry = length-range (entry_at image entry).key_len _ _
 
--- and so are those of a stream
+-- the bytes of a stream have the length that the record says
 pub stream-length-said : (image : Image) (entry stream : ℕ) → length (stream_bytes image entry stream) ≡ size_word image entry stream
 unfolding stream_bytes
 stream-length-said image entry stream = length-range (size_word image entry stream) _ _

@@ -51,7 +51,7 @@ chained words entry (Some b) prefix suffix s = subst (λ (ws : List ℕ). is_amo
 pub chained-there : (image : Image) (key : List ℕ) (entry : ℕ) (before : Option ℕ) → IsFound key false entry before image → is_among (chained_for (store_of image) key) entry ≡ true
 chained-there image key entry before found = chained (chained_for (store_of image) key) entry before found.prefix found.suffix found.stands
 
--- the record of what loads says the cost of that
+-- the cost by the record of what is loaded is the cost of what is loaded
 pub loaded-charge : (image : Image) (entry : ℕ) (loaded : Loaded) → LoadsWith entry loaded image → charge_at image entry ≡ charge_of loaded
 loaded-charge image entry loaded w = record-charge image entry loaded w
 

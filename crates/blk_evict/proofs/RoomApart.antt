@@ -73,7 +73,7 @@ named-as-before : (state : State) (group : Group) (number : ℕ) → is_named (w
 unfolding without
 named-as-before state group number named = named
 
--- where an item goes alone
+-- where an item is evicted alone
 pub alone-apart : (state : State) (layout : Layout) (unlinked : List ℕ) (image : Image) (front : List Item) (item : Item) (behind : List Item) (contents : ℕ) → KeepsUncounted state layout unlinked image → MayGo state front item behind
     → NamedObjectsStay (without (group_for item front ∷ []) state) layout (layout_removed layout (layout.place item) contents)
 alone-apart state layout unlinked image front item behind contents k is number object here named =
@@ -87,7 +87,7 @@ alone-apart state layout unlinked image front item behind contents k is number o
 
 -- ---- whole objects
 
--- what lies at a node that doesn't go is as it was
+-- what lies at a node that isn't removed is as it was
 stays-at : (at : ℕ → Option Loaded) (gone : List ℕ) (node : ℕ) → is_among gone node ≡ false → (if is_among gone node then None else at node) ≡ at node
 stays-at at gone node off = ap (λ (b : Bool). if b then None else at node) off
 
@@ -111,7 +111,7 @@ module _ (state : State) (layout : Layout) (unlinked : List ℕ) (image : Image)
       (λ (e : is_among (gone_nodes state layout (is_of_another key)) (node_of_object layout number object) ≡ false). e)
       (cases_Bool (is_among (gone_nodes state layout (is_of_another key)) (node_of_object layout number object)))
 
--- where a whole object goes
+-- where a whole object is evicted
 pub key-apart : (state : State) (layout : Layout) (unlinked : List ℕ) (image : Image) (front : List Item) (key : List ℕ) (behind : List Item) (chains : ℕ → List ℕ) → KeepsUncounted state layout unlinked image → MayGo state front (main key) behind
     → NamedObjectsStay (without (group_for (main key) front ∷ []) state) layout (layout_less layout (gone_nodes state layout (is_of_another key)) chains)
 key-apart state layout unlinked image front key behind chains k is number object here named =

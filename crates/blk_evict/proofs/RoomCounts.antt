@@ -22,7 +22,7 @@ use Rattle.blk_evict.proofs.RoomGroups.{first-same, loose-for}
 
 -- ---- sums over lists
 
--- what goes and what stays
+-- the sum over what is removed, and that over what stays
 pub split-sum : (w : Item → ℕ) (p : Item → Bool) (l : List Item) → sum_by w l ≡ sum_by w (filter (λ i. not (p i)) l) + sum_by w (filter p l)
 split-sum w p [] = refl
 split-sum w p (i ∷ l) = sum_by-cons w i l ∙ go (p i) (split-sum w p l) where
@@ -86,7 +86,7 @@ abbrev HasParts : Item → List Item → List Item → Type 0
 HasParts (main key) front all = parts_among key front ≡ parts_among key all
 HasParts (part key n) front all = Unit {0}
 
--- what goes with the eviction unit of an item of a list
+-- the sum over what is removed with the eviction unit of an item of a list
 group-sum : (w : Item → ℕ) (item : Item) (front all : List Item) → HasParts item front all → times item all ≡ 1 → sum_by w (filter (is_out (group_for item front ∷ [])) all) ≡ sum_by w (items_of_group (group_for item front))
 group-sum w (main key) front all parts once =
     ap (sum_by w) (same-filter (is_out (group_for (main key) front ∷ [])) (λ i. bytes_eq key (key_of i)) all (λ i. or-none (bytes_eq key (key_of i))))
@@ -190,7 +190,7 @@ module _ (group : Group) where
           let o : IsOwned state item n = owned state item n e in
           object-left n ∙ ap (option_and_then (left_of (group ∷ []))) o.here ∙ left-is item o.object stays o.has ∙ ap (option_map shrunk) (sym o.here)
 
-    -- its row
+    -- the row of the item stays
     row-left : (item : Item) (object : Object) → is_out (group ∷ []) item ≡ false → has_item object item ≡ true → row_in (shrunk object) item ≡ row_in object item
     unfolding shrunk
     row-left (main key) object stays has = refl
@@ -212,7 +212,7 @@ module _ (group : Group) where
           ∙ row-left item o.object stays o.has
           ∙ ap (option_and_then (λ object. row_in object item)) (sym o.here)
 
-    -- and its cost
+    -- the cost of the item stays
     main-stays : (b : Bool) (key : List ℕ) (n : ℕ) → is_out (group ∷ []) (main key) ≡ b → is_out (group ∷ []) (part key n) ≡ false → is_out (group ∷ []) (main key) ≡ false
     main-stays true key n is stays = absurd (let z : true ≡ false = sym (out_with_main (group ∷ []) key n is) ∙ stays in cc)
     main-stays false key n is stays = is

@@ -1,4 +1,4 @@
--- Eviction units go one after another, from the back of the LRU list as it is then.
+-- Eviction units are evicted one after another, from the back of the LRU list as it is then.
 use Rattle.std.proofs.Common.{◌≡◌, inl, inr, ℕ, ◌+◌, Bool, true, false, ◌||◌, cond, List, [], ◌∷◌, ◌++◌, Some, None, Option, refl, sym, ap, subst, ◌∙◌, reverse, append-nil, append_assoc, map, ⊎_elim}
 use mathlib.Core.List.{reverse-cons}
 use Rattle.std.specs.List.{AllByRecursion, cons_option, list_any}
@@ -25,7 +25,7 @@ or-none false e = refl
 
 -- ---- from the back
 
--- what stays once the eviction unit of an item is gone
+-- what stays once the eviction unit of an item is removed
 next : (Item → Bool) → Item → Item → Bool
 next stays (main key) = λ other. stays other || bytes_eq key (key_of other)
 next stays (part key n) = stays
@@ -44,7 +44,7 @@ parts-reverse key (item ∷ items) =
     one None = refl
     one (Some n) = refl
 
--- an item that need not stay goes with what is in front of it
+-- an item that need not stay is evicted with the parts of its key that are in front of it
 goes : (stays : Item → Bool) (item : Item) (front : List Item) → stays item ≡ false → groups_from_back stays (item ∷ reverse front) ≡ group_for item front ∷ groups_from_back (next stays item) (reverse front)
 unfolding groups_from_back next
 goes stays (main key) front e =
@@ -52,13 +52,13 @@ goes stays (main key) front e =
     ∙ ap (λ (ns : List ℕ). whole key ns ∷ groups_from_back (λ other. stays other || bytes_eq key (key_of other)) (reverse front)) (parts-reverse key front)
 goes stays (part key n) front e = ap (λ (b : Bool). cond b (groups_from_back stays (reverse front)) (single key n ∷ groups_from_back stays (reverse front))) e
 
--- one that stays is passed over
+-- an item that stays is passed over
 stays-back : (stays : Item → Bool) (item : Item) (before : List Item) → stays item ≡ true → groups_from_back stays (item ∷ before) ≡ groups_from_back stays before
 unfolding groups_from_back
 stays-back stays (main key) before e = ap (λ (b : Bool). cond b (groups_from_back stays before) (whole key (reverse (parts_among key before)) ∷ groups_from_back (λ other. stays other || bytes_eq key (key_of other)) before)) e
 stays-back stays (part key n) before e = ap (λ (b : Bool). cond b (groups_from_back stays before) (single key n ∷ groups_from_back stays before)) e
 
--- and so are all after that
+-- all items of a list that stay are passed over
 passed : (stays : Item → Bool) (behind rest : List Item) → AllByRecursion (λ item. stays item ≡ true) behind → groups_from_back stays (reverse behind ++ rest) ≡ groups_from_back stays rest
 passed stays [] rest all = refl
 passed stays (item ∷ behind) rest all =
@@ -77,7 +77,7 @@ back-of front item behind =
     ∙ ap (λ (l : List Item). l ++ reverse front) (reverse-cons item behind)
     ∙ append_assoc (reverse behind) (item ∷ []) (reverse front)
 
--- the first eviction unit that could go is that of the last item that isn't pinned
+-- the first eviction unit that may be evicted is that of the last item that isn't pinned
 first-back : (state : State) (covered front : List Item) (item : Item) (behind : List Item) → IsLastUnpinned state covered front item behind
     → groups_from_back (is_pinned state covered) (reverse state.uses) ≡ group_for item front ∷ groups_from_back (next (is_pinned state covered) item) (reverse front)
 first-back state covered front item behind is =
@@ -88,7 +88,7 @@ first-back state covered front item behind is =
 
 -- ---- until there is enough
 
--- what goes in any case goes first
+-- the units that were evicted already are the first ones
 done-first : (enough : List Group → Bool) (done groups : List Group) → (others : List Group) × (shortest enough done groups ≡ done ++ others)
 done-first enough done [] = ([], sym (append-nil done))
 done-first enough done (group ∷ groups) = go (enough done) (done-first enough (done ++ group ∷ []) groups) where
@@ -114,7 +114,7 @@ unfolding evicted_until
 nothing-more enough state covered (inl e) = none-shortest (λ groups. enough (without groups state)) (groups_from_back (is_pinned state covered) (reverse state.uses)) (ap enough (without-none state) ∙ e)
 nothing-more enough state covered (inr all) = ap (shortest (λ groups. enough (without groups state)) []) (none-back (is_pinned state covered) state.uses all)
 
--- the eviction unit of an item that need not stay may go
+-- the eviction unit of an item that need not stay may be evicted
 pub loose-for : (stays : Item → Bool) (item : Item) (front : List Item) → stays item ≡ false → IsLoose stays (group_for item front)
 loose-for stays (main key) front e = e
 loose-for stays (part key n) front e = e

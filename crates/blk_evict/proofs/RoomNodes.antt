@@ -10,7 +10,7 @@ use Rattle.law_folder.proofs.lists.Walks.{walk_list}
 use Rattle.blk_lru.specs.Lists.{IsListAtRest, IsListed, first_node_of}
 use Rattle.blk_evict.specs.ListPlaces.{AreInPrefix, IsPlaceInList}
 
--- what begins with a node
+-- a list whose first node is this one begins with it
 begins : (nodes : List ℕ) (node : ℕ) → ◌≡◌ {A = Option ℕ} (Some node) (first_node_of nodes) → (rest : List ℕ) × (nodes ≡ node ∷ rest)
 begins [] node e = absurd (no e) where
   no : ◌≡◌ {A = Option ℕ} (Some node) None → ⊥
@@ -19,7 +19,7 @@ begins (other ∷ nodes) node e = (nodes, ap (λ (w : ℕ). w ∷ nodes) (same e
   same : ◌≡◌ {A = Option ℕ} (Some node) (Some other) → other ≡ node
   same e = cc
 
--- and what begins with none
+-- a list without a first node is empty
 ends : (nodes : List ℕ) → ◌≡◌ {A = Option ℕ} None (first_node_of nodes) → nodes ≡ []
 ends [] e = refl
 ends (other ∷ nodes) e = absurd (no e) where

@@ -21,7 +21,7 @@ twice a b None between new first second = second ∙ ap (option_map (λ (w : Lis
 twice a b (Some w) between new first second = second ∙ ap (option_map (λ (v : List ℕ). v ++ b)) first ∙ ap Some (append_assoc w a b)
 
 module _ (before between failed : Bool) (w0 w1 w2 : Option (List ℕ)) (a b : List ℕ) (one : PrintsUnlessFailed before between w0 w1 a) (two : PrintsUnlessFailed between failed w1 w2 b) where
-  -- where it had not failed between
+  -- where the output had not failed between
   went-on : between ≡ false → Appends w0 w2 (a ++ b)
   went-on e = record {
     front = a ++ two.front.front;
@@ -30,7 +30,7 @@ module _ (before between failed : Bool) (w0 w1 w2 : Option (List ℕ)) (a b : Li
     written = twice a two.front.front w0 w1 w2 (one.whole e) two.front.written;
   }
 
-  -- where it had
+  -- where the output had failed between
   stopped : between ≡ true → Appends w0 w2 (a ++ b)
   stopped e = record {
     front = one.front.front;

@@ -1,4 +1,4 @@
--- An object with an index goes with its parts: what is left once its eviction unit is out, and what is printed.
+-- An object with an index is evicted with its parts: what is left once its eviction unit is out, and what is printed.
 use Rattle.std.proofs.Common.{◌≡◌, ℕ, Bool, true, false, List, [], ◌∷◌, ◌++◌, length, map, Option, Some, None, refl, sym, ap, subst, ◌∙◌, arith, append-nil}
 use Rattle.std.specs.Prelude.{◌&&◌, ◌==◌, IfSome, if◌then◌else◌}
 use Rattle.std.specs.List.{AllByRecursion, cons_option, filter_map, flat_map, sum_by}

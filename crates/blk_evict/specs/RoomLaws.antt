@@ -1,4 +1,4 @@
--- Lemmas on evictions: eviction units go one after another from the end of the LRU list, and what one leaves.
+-- Lemmas on evictions: eviction units are evicted one after another from the end of the LRU list, and what one leaves.
 use Rattle.std.specs.Prelude.{◌≡◌, ◌⊎◌, ℕ, ◌+◌, Bool, true, false, List, [], ◌∷◌, ◌++◌, length, sum_by}
 use Rattle.std.specs.List.{AllByRecursion}
 use Rattle.std.specs.Option.{option_map_or}
@@ -75,7 +75,7 @@ CoveredPartsStayOfNamed = (state : State) (covered front : List Item) (item : It
 abbrev pub item_charge : State → Item → ℕ
 item_charge state item = option_map_or (row_charge state) (row_of state item) 0
 
--- without the eviction unit the state has so many items less as the unit has, and so much less cost
+-- without the eviction unit the state has as many items less as the unit has, and its cost is less by that of the unit
 pub record IsLessByGroup (state : State) (group : Group) : Type 0 where
   pub items_left : items state ≡ items (without (group ∷ []) state) + length (items_of_group group)
   pub bytes_left : total state ≡ total (without (group ∷ []) state) + sum_by (item_charge state) (items_of_group group)

@@ -1,4 +1,4 @@
-//! The items of a folder by the block files alone: how one is found, and evicted with its eviction unit.
+//! The items of a folder, given only the table of block files: how one is found, and evicted with its eviction unit.
 #![tactic(auto)]
 
 mod evicting_groups;

@@ -3,7 +3,7 @@
 ghost use Rattle.blk_evict.specs.RoomLaws.{CoveredPartsStayOfNamed, GroupsAreCountedLess, ItemsThatStayArePinnedAsBefore, NothingMoreGoes, TheLastUnpinnedMayGo, TheLastUnpinnedGoesNext, TheOthersGoFromWhatIsLeft};
 ghost use Rattle.blk_evict.specs.RoomPrinting.{FaultsGoOn, NothingIsPrinted, PrintsGoOn};
 
-/// Eviction units go one after another, each that of the last item that isn't pinned in the LRU list as it is then, until the goal is met or each item
+/// Eviction units are evicted one after another, each that of the last item that isn't pinned in the LRU list as it is then, until the goal is met or each item
 /// is pinned.
 pub fn groups_go_one_after_another()
     ensures done { NothingMoreGoes }

@@ -22,7 +22,7 @@ use blk_io::{FileId, Folder, read_exact};
 use blk_record::{BlockHead, EntryView, IndexHead, Record};
 use std::alloc::Global;
 
-// The bytes of the fields of a block file's header.
+// How many bytes the fields of a block file's header have.
 const FIELDS: usize = 80;
 
 // The places of words of a record.

@@ -67,7 +67,7 @@ pub fn inspect<F: Folder, K: Sink>(
 }
 
 /// Prints what a folder holds: how many nodes are kept, each node that is dropped, in the order of the LRU list, and then each record
-/// that no walked node names, bucket after bucket and each chain in its order, with the first reason that holds; and at last the items
+/// that no walked node names, bucket after bucket and each chain in its order, with the first reason that holds; and, at the end, the items
 /// and bytes of what is kept. Nothing is written to the folder.
 ///
 /// The headers are checked first. Of an uninitialized folder `unfinished` is printed, alone. The LRU list is the one that the redo of

@@ -31,7 +31,7 @@ no-node e = cc
 
 -- ---- the lines
 
--- those of one item more
+-- the lines of one item more
 more-lines : (state : State) (passed : List Item) (item : Item) (row : Row) → row_of state item ≡ Some row → lines_of state (passed ++ item ∷ []) ≡ lines_of state passed ++ row_line row
 more-lines state passed item row is =
     ap (flat_map row_line) (filter_map-append (row_of state) passed (item ∷ []) ∙ ap (λ (o : Option Row). filter_map (row_of state) passed ++ cons_option o []) is)
@@ -67,7 +67,7 @@ pub record IsListedTo (state : State) (layout : Layout) (next : Option ℕ) (tur
   pub many : length passed ≡ turn
   pub printed : PrintsUnlessFailed failed_before failed old new (lines_of state passed)
 
--- nothing yet
+-- nothing was printed yet
 pub list-begun : (state : State) (layout : Layout) (image : Image) → Keeps state layout [] image → (next : Option ℕ) (failed : Bool) (old : Option (List ℕ)) → (IsListAtRest image → next ≡ first_node_of (walked image)) → IsListedTo state layout next 0 failed failed old old
 list-begun state layout image k next failed old h = record {
   passed = [];
@@ -84,7 +84,7 @@ listed-part state layout next turn before failed old mid new w same =
     subst (PrintsInPart before old new) (sym (both-lines state w.passed w.left) ∙ ap (lines_of state) (sym w.split) ∙ all-lines state)
     (part-on before failed old mid new (lines_of state w.passed) (lines_of state w.left) w.printed (part-none failed mid new (lines_of state w.left) same))
 
--- all of them are, where nothing is left
+-- all lines are printed where nothing is left
 all-printed : (state : State) (layout : Layout) (next : Option ℕ) (turn : ℕ) (before failed : Bool) (old new : Option (List ℕ)) (w : IsListedTo state layout next turn before failed old new) → w.left ≡ [] → PrintsUnlessFailed before failed old new (flat_map row_line (rows state))
 all-printed state layout next turn before failed old new w none =
     subst (PrintsUnlessFailed before failed old new) (ap (lines_of state) (sym (append-nil w.passed) ∙ ap (λ (l : List Item). w.passed ++ l) (sym none) ∙ sym w.split) ∙ all-lines state) w.printed
@@ -95,7 +95,7 @@ list-ended state layout turn before failed old new w = all-printed state layout 
   nothing [] is = refl
   nothing (item ∷ left) is = absurd (no-node is)
 
--- and after as many iterations as there are nodes at most
+-- nothing is left after as many iterations as there are nodes at most
 pub turns-ended : (state : State) (layout : Layout) (next : Option ℕ) (turn : ℕ) (before failed : Bool) (old new : Option (List ℕ)) (image : Image) → Keeps state layout [] image → 131072 ≤ turn
     → IsListedTo state layout next turn before failed old new → PrintsUnlessFailed before failed old new (flat_map row_line (rows state))
 turns-ended state layout next turn before failed old new image k end w = all-printed state layout next turn before failed old new w (go w.left refl) where
@@ -109,7 +109,7 @@ turns-ended state layout next turn before failed old new image k end w = all-pri
       let many = w.many in
       absurd (omega (arith, few, nodes, parts, joined, many, end))
 
--- a list has no more nodes than that
+-- a list has no more nodes than iterations are made
 pub turns-few : (state : State) (layout : Layout) (next : Option ℕ) (turn : ℕ) (before failed : Bool) (old new : Option (List ℕ)) (image : Image) → Keeps state layout [] image → 131073 ≤ turn
     → IsListedTo state layout next turn before failed old new → ⊥
 turns-few state layout next turn before failed old new image k end w =
@@ -122,7 +122,7 @@ turns-few state layout next turn before failed old new image k end w =
 
 -- ---- the item at the next node
 
--- the first of what is left lies there
+-- the first of the items that are left lies at the next node
 pub record IsNextItem (layout : Layout) (left : List Item) (node : ℕ) : Type 0 where
   pub item : Item
   pub behind : List Item

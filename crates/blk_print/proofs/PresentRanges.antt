@@ -79,7 +79,7 @@ module _ (files : BlockFiles) (range : PresentRange) (image : Image) (agrees : A
   pub read-of : (n entry : ℕ) → HasPartAt p.layout p.object n entry → IsPartRead p.object n entry image
   read-of n entry at = part-read p.state p.layout p.unlinked p.number p.object range.node range.entry p.signature image p.parent n entry at
 
-  -- where they end in the first part
+  -- where the bytes end in the first part
   module _ (inside : first-place + range.count ≤ 1048576) where
     pub one-all : length (part_bytes p.object first-number first-place range.count) ≡ range.count
     one-all = sym (ap (λ (l : List ℕ). length l) (sparse-first p.object range.offset range.count inside)) ∙ p.all

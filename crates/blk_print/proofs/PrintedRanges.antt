@@ -54,7 +54,7 @@ module _ (files : BlockFiles) (range : StreamRange) (image : Image) (p : HasByte
     pub piece-here : streams_at image piece.entry ≡ Some p.streams
     piece-here = ap (streams_at image) entry ∙ p.here
 
-    -- so many of them
+    -- as many bytes of them as the piece has
     abbrev pub a-piece : HasBytes files piece image
     a-piece = record { readable = piece-reads; streams = p.streams; here = piece-here; bytes = take piece.count (drop done p.bytes); long = piece-long; bytes_are = piece-are }
 
@@ -73,7 +73,7 @@ module _ (files : BlockFiles) (range : StreamRange) (image : Image) (p : HasByte
             ∙ append-nil (take n behind) ∙ ap (λ (m : ℕ). take m behind) asked ∙ sym p.bytes_are,
       )
 
--- so it gives no fewer
+-- so such a read gives no fewer
 pub not-short : (files : BlockFiles) (range : StreamRange) (image : Image) (p : HasBytes files range image) (old new : List ℕ) (n : ℕ) → length old ≡ range.count → IsPiece (stream range.stream p.streams) range.offset old new n → n < length new → ⊥
 not-short files range image p old new n long piece fewer =
     let all = all-read files range image p old new n long piece in
@@ -86,7 +86,7 @@ not-short files range image p old new n long piece fewer =
 
 -- what was printed before a piece, and with it
 module _ (files : BlockFiles) (range : StreamRange) (image : Image) (p : HasBytes files range image) where
-  -- nothing yet
+  -- nothing was printed yet
   pub none-yet : (failed : Bool) (old : Option (List ℕ)) → PrintsUnlessFailed failed failed old old (encode_lower (take 0 p.bytes))
   none-yet failed old = subst (PrintsUnlessFailed failed failed old old) (sym encode_lower-nil) (none-printed failed old)
 
@@ -101,11 +101,11 @@ module _ (files : BlockFiles) (range : StreamRange) (image : Image) (p : HasByte
       subst (PrintsUnlessFailed before failed w0 w2) (sym (ap encode_lower (cut-at done next) ∙ encode_lower-append (take done p.bytes) (take next (drop done p.bytes))))
       (printed-on before between failed w0 w1 w2 (encode_lower (take done p.bytes)) (encode_lower (take next (drop done p.bytes))) first second)
 
-  -- all of them
+  -- all bytes were printed
   pub all-printed : (before failed : Bool) (old new : Option (List ℕ)) (done : ℕ) → range.count ≤ done → PrintsUnlessFailed before failed old new (encode_lower (take done p.bytes)) → PrintsUnlessFailed before failed old new (encode_lower p.bytes)
   all-printed before failed old new done all printed = subst (λ (l : List ℕ). PrintsUnlessFailed before failed old new (encode_lower l)) (take_all done p.bytes (let long = p.long in omega (arith, all, long))) printed
 
-  -- a prefix of them
+  -- a prefix of the bytes was printed
   pub some-printed : (before failed : Bool) (old between new : Option (List ℕ)) (done : ℕ) → PrintsUnlessFailed before failed old between (encode_lower (take done p.bytes)) → new ≡ between → PrintsInPart before old new (encode_lower p.bytes)
   some-printed before failed old between new done printed same =
       subst (PrintsInPart before old new) (sym (encode_lower-append (take done p.bytes) (drop done p.bytes)) ∙ ap encode_lower (take-append-drop done p.bytes))
@@ -167,7 +167,7 @@ module _ (files : BlockFiles) (first second : StreamRange) (image : Image) (p : 
       (part-on f0 f1 w0 w1 w2 (codes "data " ++ (number_text (first.count + second.count) ++ codes " ")) (encode_lower p.bytes ++ (encode_lower q.bytes ++ 10 ∷ [])) front
       (record { silent = one.silent; front = appends-longer w1 w2 (encode_lower p.bytes) (encode_lower q.bytes ++ 10 ∷ []) one.front }))
 
-  -- where those of the second are
+  -- where the bytes of the second are printed in part
   pub second-in-part : (f0 f1 f2 : Bool) (w0 w1 w2 w3 : Option (List ℕ)) → PrintsUnlessFailed f0 f1 w0 w1 (codes "data " ++ (number_text (first.count + second.count) ++ codes " ")) → PrintsUnlessFailed f1 f2 w1 w2 (encode_lower p.bytes) → PrintsInPart f2 w2 w3 (encode_lower q.bytes) → PrintsInPart f0 w0 w3 (reply_text (gave (p.bytes ++ q.bytes)))
   second-in-part f0 f1 f2 w0 w1 w2 w3 front one two =
       subst (PrintsInPart f0 w0 w3) (sym both-line)

@@ -1,4 +1,4 @@
-//! What is printed of the items of a folder by the block files alone: their rows, the bytes of streams, and ranges of parts.
+//! What is printed of the items of a folder, given only the table of block files: their rows, the bytes of streams, and ranges of parts.
 #![tactic(auto)]
 
 mod item_rows;

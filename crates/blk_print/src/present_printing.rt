@@ -22,7 +22,7 @@ use blk_io::{Fault, Folder, Sink};
 use blk_ranges::{DATA, PART_SIZE, child_of};
 use blk_sparse::{Parent, PartRecords, find_parts, read_signature};
 
-/// Bytes of an object with parts, a parent: so many from an offset on.
+/// A range of an object with parts, a parent: how many bytes from an offset on.
 #[derive(Clone, Copy, Debug)]
 pub struct PresentRange {
     pub entry: Addr,
@@ -114,7 +114,7 @@ fn print_parts<F: Folder, K: Sink>(
     print_ranges(folder, files, out, failed, &one, &two)
 }
 
-// So many bytes of the data of a part from a place on.
+// A range of the data of a part: how many bytes from a position on.
 fn stream_range(entry: Addr, offset: u64, count: u64) -> StreamRange
     ensures entry { result.entry ≡ entry }
     ensures stream { result.stream ≡ 1 }
@@ -122,7 +122,7 @@ fn stream_range(entry: Addr, offset: u64, count: u64) -> StreamRange
     ensures count { result.count ≡ count }
     ensures address { IsTrue (is_address entry) }
 {
-    // That the word is one of an address is known once it is read.
+    // Reading it tells the prover that the word is one of an address.
     let _word = entry.word();
     StreamRange {
         entry,

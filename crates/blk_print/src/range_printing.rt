@@ -23,7 +23,7 @@ use blk_stream::read;
 // The bytes that are read and printed at a time.
 const PIECE: u64 = 4096;
 
-/// Bytes of a stream of a record: so many from an offset on.
+/// A range of a stream of a record: how many bytes from an offset on.
 #[derive(Clone, Copy, Debug)]
 pub struct StreamRange {
     pub entry: Addr,

@@ -208,7 +208,7 @@ module _ (request : Request) (counts counted : Counts) (following : Outcome → 
 
 -- A call that asks a counted command, wherever a run is.
 
--- what it says
+-- the command is asked counted, wherever the run is
 abbrev pub AskedBy : Result Answer StepFault → Request → (counts_old counts_new : Counts) → (keeps_old : State → Image → Type 0) → (notes_old : ℕ) → (keeps : State → Image → Type 0) → (notes : ℕ) → (told_old told_new : Told) → (clock_old clock_new : Option Readings) → Type 0
 AskedBy result request counts_old counts_new keeps_old notes_old keeps notes told_old told_new clock_old clock_new =
     (far : SoFar) (left : ℕ) → StandsAt far keeps_old notes_old (left + 2) told_old → AsksCounted result request counts_old counts_new far keeps notes left told_old told_new clock_old clock_new
@@ -232,7 +232,7 @@ pub step_fails : (why : StepFault) (request : Request) (counts counted : Counts)
 step_fails why request counts counted keeps_old keeps notes_old notes told now c_old c_new asked following far left have enough at w refused q is commands final rest =
     counted_stops request counts counted following far keeps notes left told now c_old c_new w refused why (asked far left (stands_fewer far keeps_old notes_old have (left + 2) told enough at)) q is commands final rest
 
--- a command that was asked, with its reply going nowhere, as a counted one
+-- a command that was asked, with its reply written to nowhere, as a counted one
 
 -- a fault that was handed on
 fault_of : (q : Result Answer StepFault) (why : StepFault) → IsErrAnd q (λ (x : StepFault). x ≡ why) → q ≡ Err why

@@ -27,7 +27,7 @@ use Rattle.blk_cache.proofs.WriteRoom.{items-same}
 use Rattle.blk_gen.specs.Counting.{bytes_read, evicted_items}
 use Rattle.blk_run.specs.Generating.{IsGeneratedRequest, evicted_by, longest_read}
 
--- The eviction units that go.
+-- The eviction units that are evicted.
 
 -- the last item that need not stay, with those in front of it and those after it, which stay
 record Last (stays : Item → Bool) (uses : List Item) : Type 0 where

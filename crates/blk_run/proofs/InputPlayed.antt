@@ -59,7 +59,7 @@ first_lines taken behind =
       ap (λ (d : Cut). d.whole ++ open_line d.rest) (cut_later taken behind) ∙ append_assoc (whole_lines taken) c.whole (open_line c.rest),
     )
 
--- a fault says the same of any answer
+-- a fault leads to the same, whatever the type of the answer
 fault_as : (made : List Turn) (far : SoFar) (keeps : State → Image → Type 0) (notes left : ℕ) (old new : Around) (why : StepFault) → Plays {A = Unit {0}} (Err why) made far keeps notes left old new → Plays {A = InputEnd} (Err why) made far keeps notes left old new
 fault_as made far keeps notes left old new fault.Sink p = p
 fault_as made far keeps notes left old new fault.Device p = p
@@ -282,7 +282,7 @@ module _ (input input_new : Option (List ℕ)) (piece bytes : List ℕ) (n usabl
 pub taken_as : (budget : ℕ) (input_old input input_new : Option (List ℕ)) → input_new ≡ input → ForSome input_old (IsTakenUpTo budget input) → ForSome input_old (IsTakenUpTo budget input_new)
 taken_as budget input_old input input_new same taken = subst (λ (l : Option (List ℕ)). ForSome input_old (IsTakenUpTo budget l)) (sym same) taken
 
--- no more than so many bytes were taken
+-- at most the input limit and one byte were taken
 pub taken_up_to : (budget left : ℕ) (input_old input input_new : Option (List ℕ)) (line : Line) (lines_now : ℕ) (keeps_old keeps : State → Image → Type 0) (notes_old notes : ℕ) (old mid : Around)
     → IsInputPlayed budget left input_old input line lines_now keeps_old keeps notes_old notes old mid → (n : ℕ) → n ≤ left + 1 → ForSome input (λ l. n ≤ length l) → input_new ≡ option_map (drop n) input
     → ForSome input_old (IsTakenUpTo (budget + 1) input_new)

@@ -28,7 +28,7 @@ pub part_same : {A : Type 0} (result : Result A StepFault) (far : SoFar) (one ot
     → PlaysPart result one far keeps notes left old new → PlaysPart result other far keeps notes left old new
 part_same result far one other keeps notes left old new same played = record { made = played.made; are = λ r there. played.are r there ∙ same (state_now far) r; plays = played.plays }
 
--- the part of a line that says something
+-- the part of a line: a command, or an error
 abbrev pub line_part : ℕ → Result Request LineFault → State → Readings → List Turn
 line_part number says state clock = turns (line_script number says ended) state clock
 

@@ -57,7 +57,7 @@ read_whole len buffer old_left new_left read input left =
 pub none_yet : (most : ℕ) (old new : Option (List ℕ)) → new ≡ old → ForSome old (IsTakenUpTo most new)
 none_yet most old new same input left = ([], record { behind = input; split = refl; left_is = same ∙ left; within = omega arith })
 
--- no more than so many bytes are no more than more bytes
+-- at most some bytes are at most more bytes
 up_to_more : (most more : ℕ) (left : Option (List ℕ)) (input : List ℕ) → most ≤ more → IsTakenUpTo most left input → IsTakenUpTo more left input
 up_to_more most more left input few taken = (taken.0, record { behind = taken.1.behind; split = taken.1.split; left_is = taken.1.left_is; within = let w = taken.1.within in omega (arith, w, few) })
 

@@ -63,7 +63,7 @@ open_goes : (far : SoFar) (key : List ℕ) (stream : ℕ) (bytes : List ℕ) (mo
 open_goes far key stream bytes moment clock read r there =
     subst (λ (m : ℕ). GoOn (turns (put_script key stream bytes)) (turns (put_on far key stream bytes m)) (open_turn far key m (not (is_missing (outcome_in (state_now far) (opened_by key m)))) ∷ []) far r) (sym (read r there)) (stamped_goes far key stream bytes r)
 
--- The Open was asked, and what it printed went nowhere.
+-- The Open was asked, and what it printed was written to nowhere.
 module _ (key : List ℕ) (stream : ℕ) (bytes : List ℕ) (far : SoFar) (keeps : State → Image → Type 0) (notes left : ℕ) (told now : Told) (w w_new : Option (List ℕ)) (c_old c_new : Option Readings) (refused : Bool) where
   abbrev whole : State → Readings → List Turn
   whole = turns (put_script key stream bytes)

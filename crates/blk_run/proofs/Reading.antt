@@ -124,7 +124,7 @@ takes_any {A} {old} {new} any reads =
 pub takes_none : {A : Type 0} {old : Option A} {P : A → A → Type 0} → A → ((here : A) → P here here) → TakesAs old old P
 takes_none any all = takes_any any (reads_none all)
 
--- nothing was taken, by what a call says
+-- nothing was taken, where a call leaves the rest as it is
 pub takes_same : {A : Type 0} {old new : Option A} → A → new ≡ old → TakesAs old new (λ before after. after ≡ before)
 takes_same {A} {old} {new} any same = subst (λ (o : Option A). TakesAs old o (λ before after. after ≡ before)) (sym same) (takes_none any (λ here. refl))
 
@@ -204,6 +204,6 @@ took_none {old} {new} n zero none later = by old none later
       holds = (empty l refl, told l (empty l refl));
     }
 
--- no more than so many bytes were taken of an observable input
+-- at most `most` bytes were taken of an observable input
 pub told_taken : (most : ℕ) {old new : Option (List ℕ)} {P : List ℕ → List ℕ → Type 0} → TakesAs old new (λ before after. IsTakenUpTo most (Some after) before × P before after) → ForSome old (IsTakenUpTo most new)
 told_taken most takes bytes there = takes_told (λ before o n. IsTakenUpTo most n before) (takes_map takes (λ before after both. both.0)) bytes there

@@ -38,7 +38,7 @@ evicted_by (to_create handle key) a before after = if is_refusal (refusal_of a) 
 evicted_by (to_write handle stream offset cut bytes) a before after = before - after
 evicted_by _ a before after = 0
 
--- the counters of the generator are within what so many commands may add up to
+-- the counters of the generator are within what this many commands may add up to
 pub record AreWithin (commands : ℕ) (counts : Counts) : Type 0 where
   pub commands_few : counts.commands ≤ commands
   pub refused_few : counts.refused ≤ commands
@@ -70,7 +70,7 @@ abbrev pub PlaysOn : Result (Unit {0}) StepFault → (whole rest : Script) → S
 PlaysOn (Ok done) whole rest far keeps notes left old new = PlaysUpTo (turns whole) (turns rest) far keeps notes left old new
 PlaysOn (Err why) whole rest far keeps notes left old new = PlaysPart {A = Unit {0}} (Err why) (turns whole) far keeps notes left old new
 
--- the first commands of a script were made, and at most so many of them are in the counters
+-- the first commands of a script were made, and at most `commands` of them are in the counters
 pub record PlaysCounted (result : Result (Unit {0}) StepFault) (commands : ℕ) (counts : Counts) (whole rest : Script) (far : SoFar) (keeps : State → Image → Type 0) (notes left : ℕ) (old new : Around) : Type 0 where
   pub within : OnOk result (AreWithin commands counts)
   pub plays : PlaysOn result whole rest far keeps notes left old new

@@ -33,11 +33,11 @@ pub record IsPastBudget (budget : ℕ) (input bytes : List ℕ) (left : Option (
   pub whole : length bytes ≡ budget
   pub left_is : left ≡ Some behind
 
--- no more than so many bytes of the input were read
+-- at most `most` bytes of the input were read
 abbrev pub IsTakenUpTo : ℕ → (left : Option (List ℕ)) → (input : List ℕ) → Type 0
 IsTakenUpTo most left input = (bytes : List ℕ) × IsTaken most input bytes left
 
--- so many bytes of the input were read, and one more
+-- `most` bytes of the input were read, and one more
 abbrev pub IsTakenPast : ℕ → (left : Option (List ℕ)) → (input : List ℕ) → Type 0
 IsTakenPast most left input = (bytes : List ℕ) × IsPastBudget most input bytes left
 
@@ -55,7 +55,7 @@ IfTooLong (Ok end.Whole) P = Unit {0}
 IfTooLong (Ok end.Failed) P = Unit {0}
 IfTooLong (Err why) P = Unit {0}
 
--- which lines were played: all of the input; the complete ones among the bytes that were read; or, at an error, the first so many
+-- which lines were played: all of the input; the complete ones among the bytes that were read; or, at an error, a prefix of them
 abbrev pub ArePlayedOf : Result InputEnd StepFault → (budget : ℕ) → (input taken : List ℕ) → (left : Option (List ℕ)) → (texts : List (List ℕ)) → Type 0
 ArePlayedOf (Ok end.Whole) budget input taken left texts = IsReadWhole budget input left × (texts ≡ lines input)
 ArePlayedOf (Ok end.Failed) budget input taken left texts = IsTaken budget input taken left × (texts ≡ whole_lines taken)

@@ -76,7 +76,7 @@ pub record AreMadeTo (made : List Turn) (far : SoFar) (keeps : State → Image �
   pub read : new.clock ≡ option_map (λ r. clock_after r (readings_of (take (count + 1) made))) old.clock
 
 -- iterations were made up to one in which the folder failed, with the first `noted` of their commands noted: whatever commands follow, the folder is as a crash
--- during them may leave it; and what was printed goes by the notes
+-- during them may leave it; and what was printed follows from the notes
 pub record AreStopped (made : List Turn) (far : SoFar) (old new : Around) : Type 0 where
   pub noted : ℕ
   pub few : noted ≤ length (commands_of made)

@@ -45,7 +45,7 @@ with_given told readings input = record { folder = told.folder; written = told.w
 -- How the iterations ended.
 
 -- how the iterations of a session ended, before its handles are closed: all were made; only these bytes of the input were read; or the text of the iteration
--- after so many could not be printed
+-- after that many could not be printed
 pub data Ending : Type 0 where
   all_made : Ending
   taken : List ℕ → Ending
@@ -101,13 +101,13 @@ pub record IsEnded (run : Run) (old new : Outside) : Type 0 where
   pub read : new.clock ≡ option_map (λ r. clock_after (later_of r) (readings_in run)) old.clock
 
 -- a run in which the folder failed, by its notes: the folder is as a crash during the run may leave it; no reply was printed but of a noted command; and unless
--- the output failed, which `sink` says, all texts before that of the last noted command were printed
+-- the output failed, as `sink` says, all texts before that of the last noted command were printed
 pub record StopsByNotes (from : Image) (run : Run) (sink : Type 0) (old new : Outside) : Type 0 where
   pub stops : Stops from run.opened (commands run) old.folder new.folder
   pub no_more : PrintsNoMore run.turns (notes_in stops.steps) old.written new.written
   pub no_less : (sink → ⊥) → PrintsNoLess run.turns (notes_in stops.steps) old.written new.written
 
--- at an I/O error the folder is as a crash during the run may leave it, and what was printed goes by the notes; otherwise the run is whole
+-- at an I/O error the folder is as a crash during the run may leave it, and what was printed follows from the notes; otherwise the run is whole
 abbrev pub Stopped : Status → Image → Run → (sink : Type 0) → Outside → Outside → Type 0
 Stopped status.Device from run sink old new = StopsByNotes from run sink old new
 Stopped _ from run sink old new = IsWholeRun from run.opened (commands run) old.folder new.folder

@@ -33,7 +33,7 @@ const LONGEST_DATA: usize = 20000;
 // An iteration reads no more bytes.
 const LONGEST_READ: u64 = 20001;
 
-// Plays so many iterations from a seed on, and prints what was counted of their commands, and the totals.
+// Plays a number of iterations from a seed on, and prints what was counted of their commands, and the totals.
 pub(crate) fn play_generated<F: Folder, K: Sink, C: Clock>(
     cache: &mut Cache,
     seed: u64,

@@ -113,7 +113,7 @@ pub(crate) fn put<F: Folder, S: Source, K: Sink, C: Clock>(
     }
 }
 
-// Takes memory for so many bytes.
+// Takes memory for `count` bytes.
 fn take_buffer(alloc: Global, count: usize) -> Result<Vec<u8>, NoMemory>
     ensures { IfOk result (λ buffer. length buffer.items ≡ count) }
 {

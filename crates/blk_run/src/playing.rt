@@ -144,7 +144,7 @@ pub(crate) fn ask<F: Folder, K: Sink, C: Clock>(
     flush_reply(answered, out)
 }
 
-// Flushes what a command printed. Where it has an answer and that fails, the output failed; what went before stays the answer.
+// Flushes what a command printed. Where it has an answer and that fails, the output failed; an earlier fault stays the answer.
 fn flush_reply<K: Sink>(
     answered: Result<Answer, StepFault>,
     out: &mut K,
@@ -185,7 +185,7 @@ fn line_end(bytes: &[u8]) -> Option<usize>
     memchr(b'\n', bytes)
 }
 
-// The bytes after so many.
+// The bytes after the first `count`.
 fn behind(bytes: &[u8], count: usize) -> &[u8]
     requires { count ≤ length bytes.now }
     ensures { result.now ≡ drop count bytes.now }

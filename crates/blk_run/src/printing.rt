@@ -1,4 +1,4 @@
-// The lines that are printed. Each goes to the output in pieces, takes no memory, and is flushed at its end.
+// The lines that are printed. Each is written to the output in pieces, takes no memory, and is flushed at its end.
 ghost use Rattle.std.specs.Prelude.{◌≡◌, ◌++◌, ◌≤◌, OnOk, OnErr, drop, length, false};
 ghost use Rattle.std.specs.List.{flat_map};
 ghost use Rattle.std.specs.Option.{option_map};

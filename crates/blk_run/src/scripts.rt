@@ -40,7 +40,7 @@ pub(crate) enum Fixed<'a> {
     Commands(&'a [Command<'a>]),
     // The script of `put`.
     Put(Put<'a>),
-    // So many iterations of a generator, from a seed on.
+    // A number of iterations of a generator, from a seed on.
     Generated { seed: u64, turns: u32 },
 }
 

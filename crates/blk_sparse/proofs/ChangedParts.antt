@@ -76,7 +76,7 @@ row-by : (key : List ℕ) (name : Name) (index : PartIndex) (streams : List (Lis
 unfolding presence_in
 row-by key name index streams key_is n value k m b p i = part_row (k i) (m i) (record { bytes = b i; presence = p i })
 
--- and what it says
+-- the name, the index and the streams give the row of a part
 pub record IsPartRow (name : Name) (index : PartIndex) (streams : List (List ℕ)) (key : List ℕ) (n : ℕ) (value : PartValue) : Type 0 where
   pub key_is : name.key ≡ key
   pub number_is : name.part ≡ n
@@ -101,7 +101,7 @@ module _ (state : State) (layout : Layout) (unlinked : List ℕ) (from : Image) 
       (load-then (store_of from) (rule_of layout (layout.place (part object.key n))) (layout.place (part object.key n)) at.was (k.represents.holds.shows.each (layout.place (part object.key n)) at.was at.lies)
       (λ m e f. role-part-of e at.was.key at.was.streams name index (f.facts.role ∙ ap Some role)))
 
--- ---- states of so many items
+-- ---- states with a given number of items
 
 items-same : (state : State) → IsValidState state → (number : ℕ) (object : Object) → object_at state number ≡ Some object → (n : ℕ) (old value : PartValue) → part_at object n ≡ Some old → items (with_object state number (with_value object n value)) ≡ items state
 items-same state valid number object here n old value has =

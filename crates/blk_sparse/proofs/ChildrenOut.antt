@@ -1,4 +1,4 @@
--- The parts of a parent go, by the key that its record gives.
+-- The parts of a parent are removed, by the key that its record gives.
 use Rattle.std.proofs.Common.{◌≡◌, ℕ, ◌≤◌, ◌-◌, List, length, take, take_all, ap, sym, ◌∙◌, subst, arith, Bool, false, Some}
 use Rattle.std.specs.Int.{cast_unsigned, w64}
 use Rattle.std.specs.Option.{ForSome}

@@ -76,7 +76,7 @@ module _ (state : State) (layout : Layout) (unlinked : List ℕ) (number : ℕ) 
 
 -- ---- the map, as it is read
 
--- an index of a part has so many bytes
+-- an index of a part has 192 bytes
 pub index-long : (bytes : List ℕ) (index : PartIndex) → read_part_index bytes ≡ Some index → length bytes ≡ 192
 unfolding read_part_index
 index-long bytes index is = go (length bytes == 192) (is_index_head (content bytes)) (is_partial (content bytes)) refl (cond_some ((length bytes == 192) && is_index_head (content bytes) && is_partial (content bytes)) _ index is).0 where

@@ -70,13 +70,13 @@ module _ (state : State) (layout : Layout) (keep : Item → Bool) (chains : ℕ 
   pub none-left-of : HaveNoPart key (filter keep state.uses)
   none-left-of = without-parts key (filter keep state.uses) (λ item there. no-part item (and_parts (keep item) (is_in state.uses item) (sym (in-filter keep state.uses item) ∙ there)).1)
 
--- ---- nothing goes
+-- ---- nothing is removed
 
 not-true : (b : Bool) → not b ≡ true → b ≡ false
 not-true true e = absurd (let z : false ≡ true = e in cc)
 not-true false e = refl
 
--- what holds in the end where nothing goes
+-- what holds in the end where nothing is removed
 pub record IsUnwalked (E : Type 0) (call : E → ℕ → E → Type 0) (old : Told) (state : State) (layout : Layout) (keep : Item → Bool) (unlinked key : List ℕ) (number : ℕ) (object : Object) (from : Image) (each : E) : Type 0 where
   pub out : ForSome old.files (IsWholeDropped state layout unlinked key)
   pub session : ForSome old.files (SameSession from)

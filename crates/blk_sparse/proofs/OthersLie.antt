@@ -85,7 +85,7 @@ module _ (state : State) (layout : Layout) (unlinked : List ℕ) (image : Image)
   changed-others item listed of_key now other o apart at =
       (refl, at-elsewhere layout.at (layout.place item) (Some now) (node_of_object layout other o) (apart-by (layout.place item) (node_of_object layout other o) (item-apart item listed of_key other o apart at)))
 
-  -- and where a part more comes to a node that was nobody's
+  -- where one more part comes to a node that no item had
   pub part-others : (view : View) (objects : List (Option Object)) (n : ℕ) (was seen loaded : Loaded) → IsPartWritten view state objects layout object.key n was seen loaded
       → OthersLieAsBefore state number layout (with_new_part layout object.key n seen loaded)
   part-others view objects n was seen loaded w other o apart at =

@@ -1,4 +1,4 @@
--- An object goes with its parts, and its main item's places are freed last.
+-- An object is removed with its parts, and its main item's places are freed last.
 use Rattle.std.proofs.Common.{◌≡◌, ◌+◌, ℕ, List, [], ◌∷◌, ◌++◌, length, map, inl, refl, ap, sym, ◌∙◌, subst, arith, Bool, true, false, Option, None, Some, ⊎_elim}
 use Rattle.std.specs.Prelude.{filter, not}
 use Rattle.std.specs.Int.{cast_unsigned, w64}
@@ -58,7 +58,7 @@ module _ (words : List ℕ) (state : State) (layout : Layout) (unlinked key : Li
       going-finds-doomed state layout number object (is_of_another key) o.chains words unlinked from image left.here
       (subst (λ (k : List ℕ). LeavesOtherKeys k (is_of_another key)) (sym left.of_key) (record { out = ap not (bytes_eq_self key); others = λ item e. e })) o.kept going
 
--- what went beside the main item
+-- what was removed beside the main item
 pub beside : (layout : Layout) (items : List Item) (charge : ℕ) (parts : Gone) → AreGone layout items parts → AreGoneBeside layout items charge (record { items = parts.items + 1; bytes = parts.bytes + charge })
 beside layout items charge parts gone = record { many = ap (λ (n : ℕ). n + 1) gone.many; charged = ap (λ (n : ℕ). n + charge) gone.charged }
 
@@ -133,7 +133,7 @@ module _ {held : Bool} (state : State) (layout : Layout) (unlinked : List ℕ) (
       more : (xs : List Item) (n : ℕ) → n ≡ length xs + 1 → n ≡ length (main key ∷ xs)
       more xs n e = omega (arith, e)
 
--- in the end an object that no handle names is gone
+-- in the end an object that no handle names is removed
 pub gone-whole : (state : State) (layout : Layout) (unlinked : List ℕ) (number : ℕ) (object : Object) (key : List ℕ) (node entry : ℕ) (before : Option ℕ) (from : Image) (m : MayGoWhole state layout unlinked number object key node entry before from)
     → (image : Image) → IsWholeDropped state layout unlinked key image → IsGoneWhole state layout unlinked number object image
 gone-whole state layout unlinked number object key node entry before from m image out = subst (λ (k : List ℕ). IsWholeDropped state layout unlinked k image → IsGoneWhole state layout unlinked number object image) m.of_key (λ (o : IsWholeDropped state layout unlinked object.key image).

@@ -1,4 +1,4 @@
--- The parts of a key go in one walk.
+-- The parts of a key are removed in one walk.
 use Rattle.std.proofs.Common.{◌≡◌, ◌+◌, ◌≤◌, ℕ, List, [], ◌∷◌, ◌++◌, length, length-append, append_assoc, map, refl, ap, sym, ◌∙◌, subst, arith, Bool, Option, None, Some}
 use Rattle.std.specs.Prelude.{filter}
 use Rattle.std.specs.List.{FoldsTo}
@@ -27,7 +27,7 @@ use Rattle.blk_sparse.proofs.PartsOut.{stays-passes}
 use Rattle.blk_sparse.proofs.PartsNext.{same-session, same-unlinked}
 use Rattle.blk_sparse.proofs.Walking.{IsWalked, walked-begin, walked-end, walked-next, without-one}
 
--- where the loop is: what was left at first is left but for the parts that went, in the folder as it is now
+-- where the loop is: what was left at first is left but for the parts that were removed, in the folder as it is now
 pub record IsDropping (E : Type 0) (call : E → ℕ → E → Type 0) (old now : Told) (state : State) (layout : Layout) (keep : Item → Bool) (unlinked key : List ℕ) (number : ℕ) (object : Object) (from : Image) (at : Option ℕ) (turn : ℕ) (gone : Gone) (each last : E) : Type 0 where
   pub image : Image
   pub told : now.files ≡ Some image

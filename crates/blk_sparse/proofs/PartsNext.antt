@@ -1,4 +1,4 @@
--- The first part after a node goes.
+-- The first part after a node is removed.
 use Rattle.std.proofs.Common.{◌≡◌, ℕ, List, ◌∷◌, ◌++◌, append_assoc, refl, ap, sym, ◌∙◌, subst, Bool, true, false, Option, None, Some}
 use Rattle.std.specs.Prelude.{◌||◌, filter, IfSome}
 use Rattle.std.proofs.lemmas.Bool.{and_parts}

@@ -1,4 +1,4 @@
--- A part that isn't out is found by its name, and goes.
+-- A part that isn't out is found by its name, and removed.
 use Rattle.std.proofs.Common.{◌≡◌, ℕ, List, ap, sym, ◌∙◌, subst, refl, Bool, true, false, Option, None, Some, Ok, Err}
 use Rattle.std.specs.Option.{ForSome}
 use Rattle.std.specs.Prelude.{IfOk, if◌then◌else◌}
@@ -43,7 +43,7 @@ if_ok_weaker (Err e) P Q weaker holds = tt
 
 -- ---- the name of a part
 
--- a key that says that it is this part of a key is its name, but for the generation
+-- a key that is parsed as this part of an object's key is the part's name, but for the generation
 pub same-part : (key bytes name : List ℕ) (signature number : ℕ) → number_said key (read_name bytes) ≡ Some number → name ≡ child_name key signature number → IsOfSamePart bytes name
 same-part key bytes name signature number said printed = go (read_name bytes) refl said where
   go : (o : Option Name) → read_name bytes ≡ o → number_said key o ≡ Some number → IsOfSamePart bytes name

@@ -1,4 +1,4 @@
--- The run of present bytes that begins where it is asked for has as many as come before the first that is missing; and so many alone are asked for again.
+-- The run of present bytes that begins where it is asked for has as many as come before the first that is missing; and only that many are asked for again.
 use Rattle.std.proofs.Common.{◌≡◌, ℕ, zero, suc, ◌+◌, ◌≤◌, List, [], ◌∷◌, map, length, refl, ap, sym, ◌∙◌, arith, Bool, true, false, Option, Some, None}
 use Rattle.std.specs.Prelude.{◌==◌, is_some, take_while, if◌then◌else◌}
 use Rattle.std.proofs.lemmas.Bool.{eqb-false, eqb-true}

@@ -121,7 +121,7 @@ module _ (object : Object) (n of_part place count : ℕ) (from : Image) (r : IsP
       let none : length front ≡ 0 = (run-front (is_present_in r.value.presence) place count).later (λ e. other (ap (λ (x : ℕ × ℕ). x.0) its-run ∙ e)) in
       sym (its-bytes ∙ ap (λ (k : ℕ). take k (drop place r.value.bytes)) none)
 
-  -- so many bytes as the run has, where it begins at once
+  -- as many bytes as the run has, where it begins at once
   pub read-some : (run_between (presence_of m) place (place + count)).0 ≡ place → (old new : List ℕ) (k : ℕ) → length old ≡ (run_between (presence_of m) place (place + count)).1
       → ForSome (streams_at from of_part) (λ (streams : List (List ℕ)). IsPiece (stream 1 streams) place old new k) → take k new ≡ part_bytes object n place count
   read-some once old new k room piece =

@@ -1,4 +1,4 @@
--- The parts of a key in an LRU list, as they go one after another.
+-- The parts of a key in an LRU list, as they are removed one after another.
 use Rattle.std.proofs.Common.{◌≡◌, ◌+◌, ℕ, List, [], ◌∷◌, ◌++◌, length, length-append, append_assoc, append-nil, map, refl, ap, sym, ◌∙◌, subst, arith, Bool, true, false, Option, None, Some, ⊎_elim}
 use Rattle.std.specs.Prelude.{◌&&◌, filter, not}
 use Rattle.std.specs.List.{FoldsTo, cons_option, filter_map, sum_by}
@@ -120,7 +120,7 @@ charged-next layout key n numbers was here =
 
 -- ---- the walk
 
--- where a walk is: so many parts went, whose costs sum to `bytes`, and a closure was called with their numbers; the others are after a node
+-- where a walk is: this many parts were removed, whose costs sum to `bytes`, and a closure was called with their numbers; the others are after a node
 pub record IsWalked (E : Type 0) (call : E → ℕ → E → Type 0) (layout : Layout) (key : List ℕ) (all left : List Item) (at : Option ℕ) (items bytes : ℕ) (old new : E) : Type 0 where
   pub done : List ℕ
   pub is : IsBehind layout key left at
@@ -141,7 +141,7 @@ walked-begin E call layout key all each = record {
 }
 
 module _ (E : Type 0) (call : E → ℕ → E → Type 0) (state : State) (layout : Layout) (keep : Item → Bool) (key : List ℕ) (all : List Item) (at : Option ℕ) (items bytes : ℕ) (old new : E) (w : IsWalked E call layout key all (filter keep state.uses) at items bytes old new) where
-  -- once the next part went
+  -- once the next part is removed
   pub walked-next : (n charge : ℕ) (passed behind : List Item) (next : Option ℕ) (was : Loaded) (last : E) → w.is.items ≡ passed ++ part key n ∷ behind → HaveNoPart key passed → next ≡ last_node_of (nodes_of layout (w.is.front ++ passed))
       → layout.at (layout.place (part key n)) ≡ Some was → charge ≡ charge_of was → Distinct (nodes_of layout (filter keep state.uses)) → call new n last
       → IsWalked E call layout key all (filter (keeps_but keep (part key n)) state.uses) next (items + 1) (bytes + charge) old last
@@ -166,7 +166,7 @@ module _ (E : Type 0) (call : E → ℕ → E → Type 0) (state : State) (layou
         sum = omega (arith, more, sum, charge_is);
       }
 
-  -- where no part is left, all went
+  -- where no part is left, all were removed
   pub record AreAllWalked : Type 0 where
     pub called : FoldsTo call old (parts_among key all) new
     pub many : items ≡ length (map (part key) (parts_among key all))

@@ -56,7 +56,7 @@ ForEachLeft key signature from P =
     → AreLeft state layout keep chains unlinked key number object from → HasSignature layout key signature
     → P state layout keep unlinked number object
 
--- P holds of each object with this key and an index as `indexed` says whose main item is out, and perhaps some of its parts
+-- P holds of each object with this key whose index is as `indexed` says, whose main item is out, and perhaps some of its parts
 abbrev pub ForEachIndexed : (key : List ℕ) (indexed : IndexedParts) → Image → (State → Layout → (keep : Item → Bool) → List ℕ → ℕ → Object → Type 0) → Type 0
 ForEachIndexed key indexed from P =
     (state : State) (layout : Layout) (keep : Item → Bool) (chains : ℕ → List ℕ) (unlinked : List ℕ) (number : ℕ) (object : Object)

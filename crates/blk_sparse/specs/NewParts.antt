@@ -102,7 +102,7 @@ pub record HasStreamsNow (entry : ℕ) (streams : PartStreams) (from image : Ima
   pub updated : IsUpdated from entry (stream_changes streams) image
   pub outside : SameOutside (record_range entry) from image
 
--- the part is written: it loads by itself, its record's next is the head of its bucket, and the checksums of node and record match
+-- the part is written: its node loads, its record's next is the head of its bucket, and the checksums of node and record match
 pub record IsPartLoaded (loaded : Loaded) (image : Image) : Type 0 where
   pub loads : load (store_of image) (unchained_rule entry_normal) loaded.node ≡ Ok loaded
   pub follows : (store_of image).chain_next loaded.contents ≡ (store_of image).table (bucket_of_hash (hash loaded.key))

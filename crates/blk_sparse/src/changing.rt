@@ -89,7 +89,7 @@ pub(crate) fn read_map<F: Folder>(
     }
 }
 
-// Prints a bitmap in which so many bytes from a position on are marked as present.
+// Prints a bitmap in which a number of bytes from a position on are marked as present.
 fn print_noted(map: PartMap, place: u32, len: u32, out: &mut [u8; 192])
     requires valid { IsPartMap map }
     requires some { 1 ≤ len }

@@ -48,7 +48,7 @@ pub fn drop_children<F: Folder>(
     requires is_open { ForSome (F.told f.old).files (IsOpen files.now) }
 
     // Where the parent of an object is out, and perhaps parts of it, and what is left is counted, all its items are out in the end, in the same session. How
-    // many parts went is the answer.
+    // many parts were removed is the answer.
     ensures out { OnOk result (ForTold (F.told f.old) (ForEachPartlyOut parent.now) (AllOutOfIt (F.told f.new))) }
     ensures count { IfOk result (λ count. ForTold (F.told f.old) (ForEachPartlyOut parent.now) (CountsLeftOfIt count)) }
     ensures session { OnOk result (ForTold (F.told f.old) (ForEachPartlyOut parent.now) (SessionStaysLeft (F.told f.new))) }
@@ -56,7 +56,7 @@ pub fn drop_children<F: Folder>(
     // What lies in places that were unlinked at first, as those of the parent, lies there still.
     ensures keeps { OnOk result (ForTold (F.told f.old) (ForEachPartlyOut parent.now) (UnlinkedStay (F.told f.new))) }
 
-    // No more parts go than a list has nodes.
+    // No more parts are removed than a list has nodes.
     ensures few { IfOk result (λ count. count ≤ 131072) }
 
     // At each word the durable contents with the object doomed are recovered.
@@ -98,7 +98,7 @@ pub fn drop_children_with<F: Folder, E: FnMut(u32)>(
     requires is_open { ForSome (F.told folder.old).files (IsOpen files.now) }
 
     // Where the parent of an object is out, and perhaps parts of it, and what is left is counted, all its items are out in the end, in the same session. How
-    // many parts went is the answer.
+    // many parts were removed is the answer.
     ensures out { OnOk result (ForTold (F.told folder.old) (ForEachPartlyOut parent.now) (AllOutOfIt (F.told folder.new))) }
     ensures count { IfOk result (λ count. ForTold (F.told folder.old) (ForEachPartlyOut parent.now) (CountsLeftOfIt count)) }
     ensures session { OnOk result (ForTold (F.told folder.old) (ForEachPartlyOut parent.now) (SessionStaysLeft (F.told folder.new))) }
@@ -106,7 +106,7 @@ pub fn drop_children_with<F: Folder, E: FnMut(u32)>(
     // What lies in places that were unlinked at first, as those of the parent, lies there still.
     ensures keeps { OnOk result (ForTold (F.told folder.old) (ForEachPartlyOut parent.now) (UnlinkedStay (F.told folder.new))) }
 
-    // No more parts go than a list has nodes.
+    // No more parts are removed than a list has nodes.
     ensures few { IfOk result (λ count. count ≤ 131072) }
 
     // `each` was called with the numbers of the parts that were left, in the order of the list, once each; or with a prefix of

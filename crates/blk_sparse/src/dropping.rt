@@ -54,8 +54,8 @@ struct Dropped {
 ///
 /// The generation is that of the index of the key's main item, and the names of the parts are made in `buffer`. This takes three
 /// folder calls for each item of the list, two more for a part of any key, and those of `find` and `remove_part` for each
-/// part that goes. A part that its name doesn't find is corruption, of the hash of its record. No more parts go than a list
-/// has nodes.
+/// part that is removed. A part that its name doesn't find is corruption, of the hash of its record. No more parts are
+/// removed than a list has nodes.
 pub fn drop_parts_with<F: Folder, E: FnMut(u32)>(
     folder: &mut F,
     files: &BlockFiles,
@@ -80,7 +80,7 @@ pub fn drop_parts_with<F: Folder, E: FnMut(u32)>(
     // Places that were unlinked at the start, as those of the main item, keep their bytes.
     ensures keeps { OnOk result (ForTold (F.told folder.old) (ForKeyLeft key.now signature) (UnlinkedStay (F.told folder.new))) }
 
-    // No more parts go than a list has nodes, and each costs less than 2^34 bytes.
+    // No more parts are removed than a list has nodes, and each costs less than 2^34 bytes.
     ensures few { IfOk result (λ gone. gone.items ≤ 131072) }
     ensures light { IfOk result (λ gone. gone.bytes ≤ 2 ^ 51) }
 

@@ -76,7 +76,7 @@ fn take_stream<F: Folder>(
     ensures writes { MayWrite F.told F.faults folder.old folder.new (IfDevice result) }
 {
     let addr = store_new(folder, files, offset, bytes)?;
-    // That the word is one of an address is known once it is read.
+    // Reading it tells the prover that the word is one of an address.
     let _word = addr.word();
     check_index(folder)?;
     Ok(addr)

@@ -30,8 +30,8 @@ use blk_stream::read;
 
 /// Removes an object with an index, a parent, which no handle names, with its parts: its main item is taken out and
 /// counted no longer, then each part is removed, as `drop_parts_with` says, and the main item's own places are freed last.
-/// Where no bit of its index is set, no list is walked. How many items went is given, the main one too, and the sum of
-/// their costs.
+/// Where no bit of its index is set, no list is walked. How many items were removed is given, the main one
+/// too, and the sum of their costs.
 ///
 /// Its places and its cost were read before, as `read_owned` gives them. Its record is in its chain after the record
 /// before, or is the first; and it names this node. The index is read into `buffer`, and then the names of parts are made
@@ -61,7 +61,7 @@ pub fn remove_parent_with<F: Folder, E: FnMut(u32)>(
     requires is_open { ForSome (F.told folder.old).files (IsOpen files.now) }
 
     // Where these are its places and its cost, and there is such an object in a state that is kept, the state with it doomed is kept in the end, in the same
-    // session. The answer has how many items went, and the sum of their costs.
+    // session. The answer has how many items were removed, and the sum of their costs.
     ensures removed { OnOk result (ForTold (F.told folder.old) (ForEachOwned key.now node found.now owned.now) (GoesWhole (F.told folder.new))) }
     ensures gone { IfOk result (λ gone. ForTold (F.told folder.old) (ForEachOwned key.now node found.now owned.now) (GroupGone key.now gone)) }
     ensures session { OnOk result (ForTold (F.told folder.old) (ForEachOwned key.now node found.now owned.now) (SessionStays (F.told folder.new))) }
@@ -93,7 +93,7 @@ pub fn remove_parent_with<F: Folder, E: FnMut(u32)>(
 }
 
 /// Dooms an object with an index, a parent, which a handle names: its main item is taken out, and counted no longer, nor
-/// is its cost; then each part goes, as `drop_parts_with` says; and its record gets the state of a doomed object last.
+/// is its cost; then each part is removed, as `drop_parts_with` says; and its record gets the state of a doomed object last.
 /// Where no bit of its index is set, no list is walked. Nothing of the main item is freed: its places stay its own until
 /// the last handle is closed. It answers how many parts were removed, and the sum of their costs.
 ///
@@ -120,7 +120,7 @@ pub fn doom_parent<F: Folder>(
     requires is_open { ForSome (F.told folder.old).files (IsOpen files.now) }
 
     // Where there is such an object in a state that is kept, and `charge` is the cost of its main item, the state with it doomed is kept in the end, in the
-    // same session. The answer has how many parts went, and the sum of their costs.
+    // same session. The answer has how many parts were removed, and the sum of their costs.
     ensures doomed { OnOk result (ForTold (F.told folder.old) (ForEachInUse key.now node found.now charge) (DoomsWhole (F.told folder.new))) }
     ensures gone { IfOk result (λ gone. ForTold (F.told folder.old) (ForEachInUse key.now node found.now charge) (PartsGone key.now gone)) }
     ensures session { OnOk result (ForTold (F.told folder.old) (ForEachInUse key.now node found.now charge) (SessionStays (F.told folder.new))) }

@@ -41,7 +41,7 @@ struct Counted {
 }
 
 /// Writes sparse data to a dirty live object: its main item is accessed, it becomes sparse where it is plain, the bytes are written, and the counters of the
-/// index are raised by so many items and so much cost.
+/// index are raised by that many items and that cost.
 ///
 /// The key is read from the record into the front of `name`, and the names of the parts are made after the longest key.
 pub fn store_sparse<F: Folder>(
@@ -113,7 +113,7 @@ fn use_and_begin<F: Folder>(
     Ok(())
 }
 
-// Writes bytes to an object with parts, and raises the counters of the index by so many items and so much cost.
+// Writes bytes to an object with parts, and raises the counters of the index by a number of items and a cost.
 fn write_and_count<F: Folder>(
     folder: &mut F,
     files: &mut BlockFiles,
@@ -142,7 +142,7 @@ fn write_and_count<F: Folder>(
     count_items(folder, files, more.entries, more.charge)
 }
 
-// Raises the counters of the index by so many items and so much cost: where no item is new only the counter of bytes, by two folder calls, and else all by six.
+// Raises the counters of the index by a number of items and a cost: where no item is new only the counter of bytes, by two folder calls, and else all by six.
 fn count_items<F: Folder>(
     folder: &mut F,
     files: &BlockFiles,

@@ -7,7 +7,7 @@ ghost use Rattle.blkcache.specs.Needs.{only_reads, changes_first};
 use blk_args::Order;
 use blk_host::Access;
 
-/// How the arguments have the folder: alone, unless they only read it. `None` means arguments outside the grammar, which are
+/// How the folder is locked for the arguments: exclusively, unless they only read it. `None` means arguments outside the grammar, which are
 /// refused.
 pub fn access_for(order: Option<Order<'_>>) -> Access
     ensures { (result ≡ Access.Shared) ↔ IsTrue (only_reads (option_map task_given order.entry)) }

@@ -30,8 +30,8 @@ pub struct Given {
     pub erases: bool,
 }
 
-/// What the program is given, or `None` where there is no path, an argument is not UTF-8, or a variable says nothing that it may
-/// say.
+/// What the program is given, or `None` where there is no path, an argument is not UTF-8, or a variable has a value that isn't
+/// allowed.
 ///
 /// # Errors
 /// Out of memory.
@@ -57,7 +57,7 @@ pub fn read_given(rt: HostRuntime) -> io::Result<Option<Given>> {
     }))
 }
 
-// How long to wait, or None where the variable says no number of seconds. No time where it is not there.
+// How long to wait, or None where the variable has no number of seconds. No time where it is unset.
 fn read_wait(rt: HostRuntime) -> io::Result<Option<Duration>> {
     match env::var(&rt, WAIT) {
         Ok(text) => Ok(number_in(text.as_bytes()).map(Duration::from_secs)),
@@ -65,7 +65,7 @@ fn read_wait(rt: HostRuntime) -> io::Result<Option<Duration>> {
     }
 }
 
-// Whether to erase, or None where the variable says neither. No where it is not there.
+// Whether to erase, or None where the variable has neither 0 nor 1 nor an empty text. No where it is unset.
 fn read_erases(rt: HostRuntime) -> io::Result<Option<bool>> {
     match env::var(&rt, ERASE) {
         Ok(text) => Ok(switch_in(text.as_bytes())),
@@ -73,7 +73,7 @@ fn read_erases(rt: HostRuntime) -> io::Result<Option<bool>> {
     }
 }
 
-// What holds where a variable is not there. One that is not UTF-8 says nothing.
+// The default of a variable where it is unset. One that is not UTF-8 has a value that isn't allowed.
 fn unless_absent<T: Drop>(error: VarError, absent: T) -> io::Result<Option<T>> {
     match error {
         VarError::NotPresent => Ok(Some(absent)),

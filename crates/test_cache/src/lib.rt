@@ -1,4 +1,4 @@
-//! The tests of the opening and the end of a cache, of commands on many objects, and of how the parts of an object go.
+//! The tests of the opening and the end of a cache, of commands on many objects, and of how the parts of an object are removed.
 #![tactic(auto)]
 
 #[cfg(test)]

@@ -129,7 +129,7 @@ fn main_out(f: &mut Mem, files: &BlockFiles) -> Result<[u32; 2], Fault> {
     }
 }
 
-// Drops the parts of the object by its key, after its main item. Gives how many went, and the numbers that were given.
+// Drops the parts of the object by its key, after its main item. Gives how many were removed, and the numbers that were given.
 fn parts_dropped(f: &mut Mem) -> Result<(Gone, [u32; 3]), Fault> {
     let files = BlockFiles::load(f)?;
     main_out(f, &files)?;
@@ -163,7 +163,7 @@ fn children_dropped(f: &mut Mem, telling: bool) -> Result<(u64, [u32; 3]), Fault
     Ok((count, told))
 }
 
-// Removes the object with its parts, or dooms it. Gives what went, and the numbers that were given.
+// Removes the object with its parts, or dooms it. Gives what was removed, and the numbers that were given.
 fn whole_gone(f: &mut Mem, dooms: bool) -> Result<(Gone, [u32; 3]), Fault> {
     let files = BlockFiles::load(f)?;
     match find(f, &files, OBJECT, false) {
@@ -197,7 +197,7 @@ fn whole_gone(f: &mut Mem, dooms: bool) -> Result<(Gone, [u32; 3]), Fault> {
     }
 }
 
-// How the object goes with its parts: it is removed, it is doomed, or its parts go by its record once it is out.
+// How the object is removed with its parts: by its key, as a doomed one, or its parts by its record once it is out.
 #[derive(Clone, Copy)]
 enum Going {
     Removed,
@@ -205,7 +205,7 @@ enum Going {
     ByRecord,
 }
 
-// How many items go with the object without its parts, and the folder calls by which it goes.
+// How many items are removed with the object without its parts, and the folder calls by which it is removed.
 fn calls_of(alloc: Global, going: Going, bits: u32, others: u8) -> Result<(u64, u64), Fail> {
     let mut f = Session::over(alloc, childless_folder(alloc, bits, others)?, LIMITS)?.f;
     let start = f.calls();

@@ -16,7 +16,7 @@ use std::test::Fail;
 
 pub(crate) const NODES: [u32; 3] = [0x9000_0000, 0x9000_0001, 0x9000_0002];
 
-// The place of the first node, and the bytes of a node.
+// The place of the first node, and how many bytes a node has.
 const NODES_AT: u64 = 8192;
 
 const NODE_LEN: usize = 36;
@@ -417,7 +417,7 @@ fn outcome(f: &mut Silent, files: &BlockFiles, call: Call, word: u32) -> Result<
     }
 }
 
-// And where a file is cut.
+// What a call answers where a file is cut, with an operation in flight.
 fn cut(alloc: Global, call: Call, file: FileId, size: u64) -> Result<Result<(), Fault>, Fail> {
     let (mut f, files) = listing(alloc, &NODES)?;
     write_word(&mut f, FileId::Index, IndexHead::TRANSACTION, NODES[1])?;

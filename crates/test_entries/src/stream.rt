@@ -51,7 +51,7 @@ fn bare_with(alloc: Global, index: u64) -> Result<Mem, Failed> {
     Ok(f)
 }
 
-// The same with a whole index.
+// The folder with a whole index.
 fn bare(alloc: Global) -> Result<Mem, Failed> {
     bare_with(alloc, INDEX_LEN)
 }

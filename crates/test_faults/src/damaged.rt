@@ -24,7 +24,7 @@ const NODE_OF_B: u32 = 0x9000_0001;
 // Their keys have different lengths, so that the bytes show which are kept.
 const THREE: [(u32, &[u8]); 3] = [(C, b"cccc"), (B, b"bb"), (A, b"a")];
 
-// A block that nobody owns.
+// A block without an owner.
 const BLOCK: u32 = 0xA001_0008;
 
 // The first version of the index.

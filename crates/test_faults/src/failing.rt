@@ -42,7 +42,7 @@ fn fails_well(
     Ok(ended && is_stop_outcome(done, listed.written()))
 }
 
-// Of each so many-th folder call of the session the first for which `fails_well` is false, with none of its steps made or with one.
+// Of each n-th folder call of the session the first for which `fails_well` is false, with none of its steps made or with one.
 fn first_that_fails_ill(
     alloc: Global,
     start: &MemFolder,

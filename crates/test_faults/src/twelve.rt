@@ -6,7 +6,7 @@ use test_folders::replies::{is_row, replies_in};
 pub(crate) const BEFORE: &[u8] =
     b"create 0 x\nwrite 0 0 0 78\nwrite 0 1 8255 78\nclose 0\ndoomkey x\n";
 
-// Makes a plain and a sparse entry, of which the second stays open and is flushed, uses and changes the first, dooms the second and evicts
+// Makes a plain and a sparse entry, of which the second stays open and is flushed, accesses and changes the first, dooms the second and evicts
 // the first.
 pub(crate) const TWELVE: Pieces<'static> = &[
     (b"create 0 a\nwrite 0 0 0 ", 4500),

@@ -44,7 +44,7 @@ fn holds<F: Folder>(f: &mut F, bytes: &[u8], external: Option<u64>) -> Result<bo
     Ok(&out[..n] == bytes && f.length(FileId::External(3))? == external)
 }
 
-// A write that fails with so many words written: what it answers, and the calls, lacks and steps then.
+// A write that fails with so many words written: what it answers, and the calls, failed allocations and steps then.
 fn fail_write(
     f: &mut MemFolder,
     words: u64,

@@ -51,7 +51,7 @@ pub const MOST_REASONS: [Change; 21] = [
 /// in flight, a record with a wrong checksum and a dirty parent; a record in two chains, and a node without a checksum; blocks that
 /// are used twice, in and out of a chain; an insertion in flight into a list without a head; an operation that doesn't count, a
 /// loop in a chain and one in the list; a file of records that is too short; files that nothing names; external files that are
-/// gone or too short, and another tail; the first version of the index, with any words where the sums of both are, an open session, a
+/// missing or too short, and another tail; the first version of the index, with any words where the sums of both are, an open session, a
 /// removal in flight and a dirty node; and almost all reasons.
 pub const STOPPED: [&[Change]; 11] = [
     &[

@@ -63,7 +63,7 @@ pub const PARENT_INDEX: u32 = 0xC203_0000;
 
 pub const PART_DATA: u32 = 0xB002_0000;
 
-/// Blocks of 256 bytes that nobody owns.
+/// Blocks of 256 bytes without an owner.
 pub const UNOWNED: u32 = 0xA001_0020;
 
 pub const OTHER_INDEX: u32 = 0xA001_0021;
@@ -100,7 +100,7 @@ fn streams_of(record: u32) -> (u32, [u32; 4], [u32; 4]) {
     }
 }
 
-// Adds an entry with such a key.
+// Adds an entry with a key that goes on with the byte x.
 fn add_entry<F: Folder>(
     alloc: Global,
     f: &mut SilentFolder<F>,

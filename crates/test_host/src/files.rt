@@ -109,7 +109,7 @@ fn a_real_folder_keeps_its_files(rt: HostRuntime) -> io::Result<()> {
     fs::remove_dir_all(&rt, path.as_str())
 }
 
-// The lengths of two files after their folder is gone, of which the last one is still open, and of one that isn't made there.
+// The lengths of two files after their folder is removed, of which the last one is still open, and of one that isn't made there.
 fn lengths(folder: &mut Machine) -> [Result<Option<u64>, Failed>; 3] {
     let last = folder.length(FileId::External(2));
     let first = folder.length(FileId::External(1));
@@ -126,7 +126,7 @@ fn a_failure_of_the_machine_is_answered(rt: HostRuntime) -> io::Result<()> {
     assert!(rt; first.is_ok() && second.is_ok());
     fs::remove_dir_all(&rt, path.as_str())?;
 
-    // The one file is still open, and the other one is gone.
+    // The one file is still open, and the other one is deleted.
     assert!(rt; lengths(&mut folder) == [Ok(Some(4)), Err(Failed), Err(Failed)]);
     assert!(rt; folder.length(FileId::Index) == Ok(None));
     assert!(rt; look(rt, path.as_str()).is_err());

@@ -25,7 +25,7 @@ pub fn new_folder(rt: HostRuntime, name: &str) -> io::Result<String> {
     Ok(path)
 }
 
-/// The folder at a path, in this way, or none where it isn't had at once.
+/// The folder at a path, locked so, or an error where it can't be locked at once.
 pub fn take(rt: HostRuntime, path: &str, access: Access) -> Result<Held, NotHeld> {
     Held::take(&rt, path, access, Duration::ZERO)
 }

@@ -71,7 +71,7 @@ const COMMANDS: [Command<'static>; 16] = [
     Command::List,
 ];
 
-// An object with two parts that is closed, and one that is made where there is space for three items: the first goes with its parts, which
+// An object with two parts that is closed, and one that is made where there is space for three items: the first is evicted with its parts, which
 // the read of both has put in front of it.
 const EVICTING: [Command<'static>; 6] = [
     Command::Create {

@@ -37,7 +37,7 @@ fn an_audit_of_4000_entries_takes_few_calls(rt: HostRuntime) -> Result<(), Fail>
 
 #[test]
 fn twice_the_entries_take_at_most_twice_the_calls(rt: HostRuntime) -> Result<(), Fail> {
-    // Of the last three sorts all entries are of that sort: below `OTHERS` no other is added.
+    // Of the last three sorts there are no more than `OTHERS` entries, so that all of them are of that sort: others are added after these.
     for (sort, entries) in [
         (Sort::Plain, ENTRIES / 2),
         (Sort::External, OTHERS / 2),

@@ -57,7 +57,7 @@ fn streams_of(record: u32) -> (u32, [u32; 4], [u32; 4]) {
     }
 }
 
-// Adds an entry with such a key.
+// Adds an entry with a key that goes on with the byte x.
 fn add_entry(
     alloc: Global,
     f: &mut Mem,

@@ -1,5 +1,5 @@
-// Maps and names with values from outside: the description of the forms, and a reading of the rule in
-// another language.
+// Maps and names with values from outside: the description of the forms, and a second
+// implementation of the rule.
 ghost use Rattle.std.specs.Prelude.{◌≡◌, ◌≤◌, ◌<◌, length};
 ghost use Rattle.std.specs.Int.{cast_unsigned, w64};
 ghost use Rattle.blk_model.specs.Sizes.{longest_key, part_count, signatures};

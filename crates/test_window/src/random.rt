@@ -7,7 +7,7 @@ use std::test::Fail;
 // How many calls are made over each window.
 const CALLS: u64 = 2000;
 
-// No file gets longer than some pages.
+// Calls are at offsets, and set lengths, below this: within a few pages.
 const LONGEST: u64 = 20_000;
 
 // The most bytes of a read, and of a write.

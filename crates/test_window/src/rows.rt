@@ -91,7 +91,7 @@ const EVICTING: Row<'static> = Row {
         total 4 940\nok\nevicted a\nevicted b\nok 60\ntotal 3 661\n",
 };
 
-// The same where a handle names the first of them since it was made.
+// The evictions where a handle names the first object since it was made.
 const EVICTING_BESIDE: Row<'static> = Row {
     limits: THOUSAND,
     input: &[
