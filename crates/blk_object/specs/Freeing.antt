@@ -17,8 +17,7 @@ use Rattle.law_state.specs.Keeping.{KeepsUncounted}
 use Rattle.law_state.specs.PartlyOut.{KeepsPartlyOut}
 use Rattle.law_state.specs.PartlyOutStops.{LeavesOtherKeys}
 use Rattle.std.specs.Option.{ForSome}
-use Rattle.spec_image.specs.Told.{Told}
-use Rattle.blk_object.specs.Calls.{LeavesWhere, StopsWhere}
+use Rattle.spec_image.specs.Told.{Passes, Told}
 use Rattle.spec_format.specs.BlockFiles.{HasSoundHeaders, stands_in}
 
 -- What may be freed.
@@ -108,11 +107,11 @@ GoingWordsFindDoomed = (state : State) (layout : Layout) (number : ℕ) (object 
 
 -- the addresses are freed, if they may be
 abbrev pub FreesWords : (old new : Told) → List ℕ → Type 0
-FreesWords old new words = LeavesWhere old new (AreFreeable words) (Removes words)
+FreesWords old new words = ForSome old.files (λ from. AreFreeable words from → ForSome new.files (Removes words from))
 
 -- after each single write a prefix of the addresses is freed, and the next one perhaps partly, if they may be
 abbrev pub StopsFreeing : (old new : Told) → List ℕ → Type 0
-StopsFreeing old new words = StopsWhere old new (AreFreeable words) (AreGoing words)
+StopsFreeing old new words = ForSome old.files (λ from. AreFreeable words from → Passes old new (AreGoing words from))
 
 -- address w is freed, if it stands in a folder whose block files have well-formed headers
 abbrev pub FreesStanding : (old new : Told) → ℕ → Type 0

@@ -7,8 +7,8 @@ ghost use Rattle.blk_io.specs.Faults.{IfDamaged, IfDevice};
 ghost use Rattle.blk_disk.specs.Open.{IsOpen};
 ghost use Rattle.blk_stream.specs.Freeing.{MayBeFreed};
 ghost use Rattle.blk_object.specs.FailedChecks.{IsFailedCheck};
-ghost use Rattle.blk_object.specs.Freeing.{AreFreeable, IsPlaceGoing, words_at, IsPlaceAmong, Removes, FreesWords, StopsFreeing, FreesStanding};
-ghost use Rattle.blk_object.specs.Calls.{LeavesWhere, UndamagedWhere};
+ghost use Rattle.blk_object.specs.Freeing.{AreFreeable, IsPlaceGoing, words_at, IsPlaceAmong, FreesWords, StopsFreeing, FreesStanding};
+ghost use Rattle.blk_object.specs.Calls.{UndamagedWhere};
 
 use blk_addr::{Addr, Kind};
 use blk_alloc::free;
@@ -56,7 +56,7 @@ fn free_if_any<F: Folder>(
 ) -> Result<(), Fault>
     requires stands { IsPlaceAmong files.now place }
     requires is_open { ForSome (F.told folder.old).files (IsOpen files.now) }
-    ensures freed { OnOk result (LeavesWhere (F.told folder.old) (F.told folder.new) (AreFreeable (words_at (place ∷ []))) (Removes (words_at (place ∷ [])))) }
+    ensures freed { OnOk result (FreesWords (F.told folder.old) (F.told folder.new) (words_at (place ∷ []))) }
     ensures stops { StopsFreeing (F.told folder.old) (F.told folder.new) (words_at (place ∷ [])) }
     ensures is_open { ForSome (F.told folder.new).files (IsOpen files.now) }
     ensures damaged { IfDamaged result (IsFailedCheck files.now (F.told folder.new)) }
