@@ -1,7 +1,7 @@
 // The end of a session whose handles are open.
+use crate::same::assert_same;
 use std::test::Fail;
 use test_folders::stopping::empty;
-use test_same::assert_same;
 use test_sessions::sessions::{LIMITS, Session, held};
 
 #[test]

@@ -1,4 +1,5 @@
 // Commands on a cache of many objects.
+use crate::same::assert_same;
 use blk_cache::StepFault;
 use blk_io::{Failed, FileId, Folder};
 use blk_model::{Answer, Command, Refusal};
@@ -6,7 +7,6 @@ use itoa::Buffer;
 use std::alloc::Global;
 use std::test::Fail;
 use test_folders::stopping::{Mem, empty};
-use test_same::assert_same;
 use test_sessions::sessions::{LIMITS, Session};
 
 // Makes an object by a handle.

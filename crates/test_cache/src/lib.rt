@@ -9,3 +9,5 @@ mod commands;
 mod opening;
 #[cfg(test)]
 mod parts;
+#[cfg(test)]
+mod same;

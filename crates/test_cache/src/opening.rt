@@ -1,4 +1,5 @@
 // The opening and the end of a cache: on an empty folder, on one of many entries, and on corrupt ones where it crashes.
+use crate::same::assert_same;
 use blk_audit::ScanFault;
 use blk_cache::{Cache, OpenFault};
 use blk_io::{FileId, Folder, MemFolder, SilentFolder, read_word};
@@ -12,7 +13,6 @@ use test_folders::many::{ENTRIES, Sort, many};
 use test_folders::mended::changed;
 use test_folders::stopped::{PUT_BACK, STOPPED};
 use test_folders::stopping::{Mem, again};
-use test_same::assert_same;
 
 const LIMITS: Limits = Limits {
     max_bytes: MOST_BYTES,

@@ -1,4 +1,5 @@
 // An object with two parts, in a folder that is written by the format alone.
+use crate::same::assert_same;
 use blk_chain::find;
 use blk_disk::BlockFiles;
 use blk_entry::node_of;
@@ -13,7 +14,6 @@ use std::alloc::Global;
 use std::test::Fail;
 use test_folders::folders::{Entry, add, give_blocks, place_of, put_index, put_words};
 use test_folders::stopping::{Mem, empty};
-use test_same::assert_same;
 use test_sessions::sessions::{LIMITS, Session, held};
 
 // The index of the object, and the bits that it has: none, or those of its first two parts.

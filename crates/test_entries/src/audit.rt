@@ -1,12 +1,12 @@
 // The walk and the chains of a small opaque folder in memory.
 use crate::folders::put_all;
+use crate::same::assert_same;
 use blk_addr::Claims;
 use blk_audit::{ScanFault, Walked, chains, read_lists, walk};
 use blk_disk::BlockFiles;
 use blk_io::{Failed, Fault, FileId, Folder, MemFolder, SilentFolder, StopFolder, write_word};
 use std::alloc::Global;
 use std::test::Fail;
-use test_same::assert_same;
 
 type Silent = SilentFolder<StopFolder>;
 

@@ -4,6 +4,7 @@ ghost use Rattle.spec_format.specs.Address.{blocks_256, kind_of};
 ghost use Rattle.blk_disk.specs.Tables.{stands_among};
 
 use crate::folders::put_all;
+use crate::same::assert_same;
 use blk_addr::{Addr, Kind};
 use blk_chain::{Found, find, link_front, unlink};
 use blk_disk::BlockFiles;
@@ -12,7 +13,6 @@ use blk_io::{Damage, Failed, Fault, FileId, Folder, MemFolder, SilentFolder, Sto
 use blk_record::{EntryMut, RecordMut, super_fast_hash};
 use std::alloc::Global;
 use std::test::Fail;
-use test_same::assert_same;
 
 // An opaque folder in memory.
 pub(crate) type Silent = SilentFolder<MemFolder>;

@@ -6,6 +6,7 @@ ghost use Rattle.blk_entry.specs.Keys.{may_hold, most_key};
 ghost use Rattle.blk_entry.specs.Writing.{FitsKey};
 
 use crate::folders::{SIZE, put_files};
+use crate::same::assert_same;
 use blk_addr::{Addr, Kind};
 use blk_disk::BlockFiles;
 use blk_entry::{
@@ -15,7 +16,6 @@ use blk_io::{Failed, Fault, FileId, Folder, MemFolder, SilentFolder};
 use blk_record::{EntryMut, NodeMut, RecordMut, super_fast_hash};
 use std::alloc::Global;
 use std::test::Fail;
-use test_same::assert_same;
 
 // An opaque folder in memory.
 type Mem = SilentFolder<MemFolder>;

@@ -15,6 +15,8 @@ mod lru;
 #[cfg(test)]
 mod repair;
 #[cfg(test)]
+mod same;
+#[cfg(test)]
 mod scan;
 #[cfg(test)]
 mod stream;

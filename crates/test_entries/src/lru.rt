@@ -3,6 +3,7 @@ ghost use Rattle.std.specs.Prelude.{IfSome, IsTrue};
 ghost use Rattle.blk_disk.specs.Tables.{is_node_among};
 
 use crate::folders::put_all;
+use crate::same::assert_same;
 use blk_addr::Addr;
 use blk_disk::BlockFiles;
 use blk_io::{
@@ -13,7 +14,6 @@ use blk_lru::{after, before, complete, first, insert_front, last, pending, remov
 use blk_record::{IndexHead, NodeView, Record};
 use std::alloc::Global;
 use std::test::Fail;
-use test_same::assert_same;
 
 pub(crate) const NODES: [u32; 3] = [0x9000_0000, 0x9000_0001, 0x9000_0002];
 

@@ -1,11 +1,11 @@
 // The LRU list that is made that of the kept nodes, in an opaque folder in memory.
 use crate::lru::{self, NODES, Shown};
+use crate::same::assert_same;
 use blk_disk::BlockFiles;
 use blk_io::{Fault, FileId, write_word};
 use blk_record::IndexHead;
 use blk_repair::mend_list;
 use std::test::Fail;
-use test_same::assert_same;
 
 // Repairs the list of the three nodes, whose tail is lost, and of which the first and the last are kept, and shows it then.
 fn mended_list(f: &mut lru::Silent, files: &BlockFiles) -> Result<Shown, Fault> {

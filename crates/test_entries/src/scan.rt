@@ -2,6 +2,7 @@
 ghost use Rattle.std.specs.Prelude.{◌<◌, length};
 
 use crate::folders::put_files;
+use crate::same::assert_same;
 use blk_addr::{Addr, Kind};
 use blk_audit::WalkedNode;
 use blk_disk::BlockFiles;
@@ -9,7 +10,6 @@ use blk_io::{Failed, Fault, FileId, Folder, MemFolder, SilentFolder};
 use blk_verdict::{Role, Verdict, has_part, load};
 use std::alloc::Global;
 use std::test::Fail;
-use test_same::assert_same;
 
 type Mem = SilentFolder<MemFolder>;
 

@@ -4,6 +4,7 @@ ghost use Rattle.spec_format.specs.Address.{blocks_256, kind_of};
 ghost use Rattle.blk_disk.specs.Tables.{stands_among};
 
 use crate::folders::{INDEX_LEN, put_files};
+use crate::same::assert_same;
 use blk_addr::{Addr, Kind};
 use blk_disk::BlockFiles;
 use blk_io::{Damage, Failed, Fault, FileId, Folder, MemFolder, SilentFolder, StopFolder};
@@ -11,7 +12,6 @@ use blk_record::{EntryMut, RecordMut};
 use blk_stream::{drop_streams, read, write};
 use std::alloc::Global;
 use std::test::Fail;
-use test_same::assert_same;
 
 type Mem = SilentFolder<MemFolder>;
 

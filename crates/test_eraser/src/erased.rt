@@ -1,10 +1,10 @@
 // What is freed, cut and deleted is full of zeros then, and nothing else has changed.
 use crate::files::{HEADER_LEN, MAP, OLD, block_file, folder_with, is_full_of};
+use crate::same::{assert_same, assert_same_at};
 use blk_eraser::Eraser;
 use blk_io::{Failed, FileId, Folder};
 use std::alloc::Global;
 use std::test::Fail;
-use test_same::{assert_same, assert_same_at};
 
 const BLOCKS: FileId = FileId::Block(1);
 

@@ -1,9 +1,9 @@
 // A folder inside of which one call fails: the map keeps its marks, unless the call is the write of the map itself.
 use crate::files::{HEADER_LEN, MAP, OLD, block_file, folder_with, is_full_of};
+use crate::same::{assert_same, assert_same_at};
 use blk_eraser::Eraser;
 use blk_io::{Failed, FileId, Folder};
 use std::test::Fail;
-use test_same::{assert_same, assert_same_at};
 
 const BLOCKS: FileId = FileId::Block(3);
 

@@ -8,4 +8,6 @@ mod failing;
 #[cfg(test)]
 mod files;
 #[cfg(test)]
+mod same;
+#[cfg(test)]
 mod stopped;

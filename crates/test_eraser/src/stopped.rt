@@ -1,4 +1,5 @@
 // Sessions over a folder that erases, of which one call after the other fails, beside the same sessions over the folder alone.
+use crate::same::assert_same;
 use blk_eraser::Eraser;
 use blk_io::{
     Failed, FileId, Folder, ListClock, MemFolder, MemSink, MemSource, NoMemory, SilentFolder,
@@ -9,7 +10,6 @@ use std::alloc::Global;
 use std::test::Fail;
 use test_folders::folders::audited;
 use test_folders::found::found;
-use test_same::assert_same;
 
 // The limits that the program has where it is given none.
 const LIMITS: Limits = Limits {

@@ -1,5 +1,6 @@
 // Folders that are corrupt or hostile: what a verification prints of each, and how a count ends on it.
 use crate::running::answers;
+use crate::same::assert_same;
 use blk_index::make;
 use blk_inspect::{InspectFault, verify};
 use blk_io::{FileId, MemFolder, MemSink, SilentFolder, read_word};
@@ -11,7 +12,6 @@ use test_folders::folders::{
     ADDRS, Change, DIRTY, Entry, Mem, NEXT, OPERATION, PREV, SIZES, TRANSACTION, add, change_all,
     give_blocks,
 };
-use test_same::assert_same;
 
 // The records of three entries, the last used first, and the node of the second.
 const C: u32 = 0xA001_0000;

@@ -1,5 +1,6 @@
 // Sessions of twelve commands in which one call fails: of the folder, of the input, or of the output.
 use crate::running::{after, answers, left_by, run_over, run_with};
+use crate::same::{assert_same, assert_same_at};
 use crate::twelve::{BEFORE, TWELVE, are_replies, is_closed, is_stop_outcome, replies_to_twelve};
 use blk_io::{ListClock, MemFolder, MemSink, MemSource};
 use blk_model::{Limits, MOST_ITEMS};
@@ -7,7 +8,6 @@ use blk_run::{Status, session};
 use std::alloc::Global;
 use std::test::Fail;
 use test_folders::inputs::text_of;
-use test_same::{assert_same, assert_same_at};
 
 // How many bytes a session takes at once.
 const TAKEN: usize = 4096;

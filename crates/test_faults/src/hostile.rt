@@ -1,6 +1,7 @@
 // Commands, runs and verifications over a folder whose words are computed from their place.
 use crate::computed::Computed;
 use crate::running::{after, left_by, run_over};
+use crate::same::assert_same;
 use crate::twelve::BEFORE;
 use blk_cache::{Cache, StepFault};
 use blk_inspect::{InspectFault, verify};
@@ -9,7 +10,6 @@ use blk_model::{Command, Limits};
 use blk_run::Status;
 use std::alloc::Global;
 use std::test::Fail;
-use test_same::assert_same;
 
 const LIMITS: Limits = Limits {
     max_bytes: 2_500_000,

@@ -15,6 +15,8 @@ mod ring;
 #[cfg(test)]
 mod running;
 #[cfg(test)]
+mod same;
+#[cfg(test)]
 mod stopped;
 #[cfg(test)]
 mod twelve;

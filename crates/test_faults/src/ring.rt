@@ -1,11 +1,11 @@
 // An LRU list that becomes a loop while a cache is open: each walk over it ends at the word that would be followed.
+use crate::same::assert_same;
 use blk_cache::{Cache, StepFault};
 use blk_io::{Damage, FileId, MemFolder, MemSink, SilentFolder};
 use blk_model::{Command, Limits};
 use std::alloc::Global;
 use std::test::Fail;
 use test_folders::folders::{Mem, put_words};
-use test_same::assert_same;
 
 const LIMITS: Limits = Limits {
     max_bytes: 2_500_000,

@@ -1,11 +1,11 @@
 // Runs that crash after each of their steps, and what the next session prints of what they left.
 use crate::running::{after, left_by, run_over, steps_of};
+use crate::same::{assert_same, assert_same_at};
 use blk_io::{FileId, Folder, MemFolder, MemSink, read_word};
 use std::alloc::Global;
 use std::test::Fail;
 use test_folders::folders::{DIRTY, HEAD, NODE_NEXT, TRANSACTION, place_of};
 use test_folders::inputs::{Pieces, text_of};
-use test_same::{assert_same, assert_same_at};
 
 // The folder that a session leaves, on which another run was made: its write trace is that of this run.
 fn played(

@@ -1,13 +1,13 @@
 // Blocks are allocated and freed, and maps are rebuilt, in a folder in memory.
 ghost use Rattle.std.specs.Prelude.{◌≤◌, ◌<◌};
 
+use crate::same::{assert_same, assert_same_at};
 use blk_addr::{Addr, Claims, Kind};
 use blk_alloc::{allocate, free, rebuild};
 use blk_disk::BlockFiles;
 use blk_io::{Damage, Failed, Fault, FileId, Folder, MemFolder, SilentFolder, read_word};
 use std::alloc::Global;
 use std::test::Fail;
-use test_same::{assert_same, assert_same_at};
 
 const MAGIC: u32 = 0xC104_CAC3;
 

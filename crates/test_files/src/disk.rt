@@ -3,12 +3,12 @@ ghost use Rattle.std.specs.Prelude.{◌≡◌, IfOk};
 ghost use Rattle.std.specs.Option.{ForSome};
 ghost use Rattle.blk_disk.specs.Tables.{Agrees};
 
+use crate::same::{assert_same, assert_same_at};
 use blk_addr::{Addr, Kind};
 use blk_disk::{BlockFiles, file_of, room_of};
 use blk_io::{Damage, Failed, Fault, FileId, Folder, MemFolder, NoMemory, SilentFolder, read_word};
 use std::alloc::Global;
 use std::test::Fail;
-use test_same::{assert_same, assert_same_at};
 
 const MAGIC: u32 = 0xC104_CAC3;
 

@@ -1,10 +1,10 @@
 // Records with checksums, in block files in memory.
 use crate::disk::{folder_of, word_of};
+use crate::same::{assert_same, assert_same_at};
 use blk_disk::BlockFiles;
 use blk_io::{Damage, Fault, FileId, Folder, MemFolder, SilentFolder};
 use std::alloc::Global;
 use std::test::Fail;
-use test_same::{assert_same, assert_same_at};
 
 // Every file has 36864 bytes of blocks: 1024 nodes, or 144 blocks of 256 bytes.
 const SIZE: usize = 45056;

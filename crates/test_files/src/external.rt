@@ -6,12 +6,12 @@ ghost use Rattle.spec_format.specs.Address.{kind_of, external};
 ghost use Rattle.blk_external.specs.Numbers.{named_file};
 ghost use Rattle.blk_io.specs.FileNames.{file_of};
 
+use crate::same::assert_same;
 use blk_addr::{Addr, Kind};
 use blk_external::{create, delete, read, resize, write};
 use blk_io::{Damage, Failed, Fault, FileId, Folder, MemFolder, SilentFolder, read_word};
 use std::alloc::Global;
 use std::test::Fail;
-use test_same::assert_same;
 
 const INDEX_LEN: u64 = 262512;
 

@@ -1,8 +1,8 @@
 // Words of an index in memory are written, and read again.
+use crate::same::{assert_same, assert_same_at};
 use blk_index::{Start, bucket, buckets, look, make, set_bucket, set_word, word};
 use blk_io::{Damage, Failed, Fault, FileId, Folder, MemFolder, SilentFolder};
 use std::test::Fail;
-use test_same::{assert_same, assert_same_at};
 
 const INDEX_LEN: u64 = 262512;
 

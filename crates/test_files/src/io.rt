@@ -1,11 +1,11 @@
 // Examples on the objects in memory.
+use crate::same::{assert_same, assert_same_at};
 use blk_io::{
     Clock, Failed, Fault, FileId, Folder, ListClock, MemFolder, MemSink, MemSource, NoMemory,
     SilentFolder, Sink, Source, StopFolder, read_word, write_run, write_words,
 };
 use std::alloc::Global;
 use std::test::Fail;
-use test_same::{assert_same, assert_same_at};
 
 // Writes over bytes of the index, where it has them.
 fn write_inside<F: Folder>(f: &mut F, at: u64, bytes: &[u8]) -> Result<(), Failed> {

@@ -13,3 +13,5 @@ mod external;
 mod index;
 #[cfg(test)]
 mod io;
+#[cfg(test)]
+mod same;

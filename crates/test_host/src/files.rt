@@ -1,10 +1,10 @@
 // The files of a real folder.
 use crate::folders::{HIGH, LOW, Machine, look, new_folder, read, write_four};
+use crate::same::{assert_same, assert_same_at};
 use blk_io::{Failed, FileId, Folder};
 use std::io::ErrorKind;
 use std::os::unix::fs::{PermissionsExt, symlink};
 use std::{fs, io};
-use test_same::{assert_same, assert_same_at};
 
 // The first files of a folder in their order, and none after the last.
 fn listed(folder: &mut Machine) -> Result<[Option<FileId>; 5], Failed> {

@@ -1,10 +1,10 @@
 // A folder that is acquired alone, or beside readers.
 use crate::folders::{look, new_folder, read, take, write_four};
+use crate::same::assert_same;
 use blk_host::{Access, Held, NotHeld, RealFolder};
 use blk_io::{FileId, Folder};
 use std::fs;
 use std::time::{Duration, Instant};
-use test_same::assert_same;
 
 // Whether the folder at a path is refused, as another program has it.
 fn is_held(rt: HostRuntime, path: &str, access: Access) -> bool {

@@ -8,4 +8,6 @@ mod folders;
 #[cfg(test)]
 mod held;
 #[cfg(test)]
+mod same;
+#[cfg(test)]
 mod streams;

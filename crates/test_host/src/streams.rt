@@ -1,10 +1,10 @@
 // The streams of the operating system, and its clock.
 ghost use Rattle.std.specs.Prelude.{◌≤◌, IfOk};
 
+use crate::same::assert_same;
 use blk_host::{Patient, StdSink, StdSource, SystemClock};
 use blk_io::{Clock, Failed, Sink, Source};
 use std::io::{self, ErrorKind, Read, Write};
-use test_same::assert_same;
 
 // A stream of the operating system that gives and takes two bytes in a call, and has an error of a kind in the third call.
 #[derive(Drop)]

@@ -1,4 +1,5 @@
 // The subcommand `count` on an empty folder, and where a call fails.
+use crate::same::assert_same;
 use blk_io::{
     Failed, FileId, Folder, ListClock, MemFolder, MemSink, MemSource, SilentFolder, read_word,
 };
@@ -7,7 +8,6 @@ use blk_run::{Status, run};
 use std::alloc::Global;
 use std::test::Fail;
 use test_folders::folders::Mem;
-use test_same::assert_same;
 
 const EMPTY: &[u8] = b"items 0 bytes 0\n";
 

@@ -1,10 +1,10 @@
 // Sessions whose output holds back what it gets until it is flushed.
+use crate::same::assert_same;
 use blk_io::{HoldingSink, ListClock, MemSource};
 use blk_run::{Status, session};
 use std::alloc::Global;
 use std::test::Fail;
 use test_folders::stopping::empty;
-use test_same::assert_same;
 use test_sessions::sessions::LIMITS;
 
 // The most bytes that a session reads here.

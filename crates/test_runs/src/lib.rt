@@ -10,6 +10,8 @@ mod long_session;
 #[cfg(test)]
 mod playing;
 #[cfg(test)]
+mod same;
+#[cfg(test)]
 mod sparse_borders;
 #[cfg(test)]
 mod sparse_stops;

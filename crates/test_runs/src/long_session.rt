@@ -1,5 +1,6 @@
 // A session of four hundred entries by eight handles, whose last Close fails.
 use crate::counting::run_on;
+use crate::same::assert_same;
 use blk_cache::StepFault;
 use blk_io::{MemSink, SilentFolder, StopFolder};
 use blk_model::{Answer, Command};
@@ -9,7 +10,6 @@ use std::alloc::Global;
 use std::test::Fail;
 use test_folders::found::with_these;
 use test_folders::stopping::{again, empty};
-use test_same::assert_same;
 use test_sessions::sessions::{LIMITS, Session, held};
 
 const ENTRIES: u32 = 400;

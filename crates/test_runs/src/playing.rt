@@ -1,9 +1,9 @@
 // A session whose input is longer than its input limit.
+use crate::same::assert_same;
 use blk_io::{ListClock, MemSink, MemSource};
 use blk_run::{Status, session};
 use std::test::Fail;
 use test_folders::stopping::empty;
-use test_same::assert_same;
 use test_sessions::sessions::{LIMITS, held};
 
 #[test]

@@ -1,11 +1,11 @@
 // Writes at the borders of parts and blocks.
+use crate::same::{assert_same, assert_same_at};
 use blk_cache::StepFault;
 use blk_io::MemSink;
 use blk_model::{Answer, Command, Refusal};
 use std::alloc::Global;
 use std::test::Fail;
 use test_folders::stopping::empty;
-use test_same::{assert_same, assert_same_at};
 use test_sessions::sessions::{LIMITS, Session};
 
 // The most bytes of a write, and where sparse data ends.

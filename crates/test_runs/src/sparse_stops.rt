@@ -1,4 +1,5 @@
 // Sessions on sparse data that crash, and openings of what they left that crash too.
+use crate::same::{assert_same, assert_same_at};
 use blk_audit::ScanFault;
 use blk_cache::Cache;
 use blk_io::{MemFolder, MemSink, NoMemory, SilentFolder};
@@ -7,7 +8,6 @@ use std::alloc::Global;
 use std::test::Fail;
 use test_folders::folders::audited;
 use test_folders::found::found;
-use test_same::{assert_same, assert_same_at};
 use test_sessions::sessions::{Held, LIMITS};
 
 // The moment of each command.

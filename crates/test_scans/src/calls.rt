@@ -1,4 +1,5 @@
 // The folder calls of a consistency check of many entries, and of a repair.
+use crate::same::assert_same;
 use blk_audit::ScanFault;
 use blk_disk::BlockFiles;
 use blk_io::FileId;
@@ -10,7 +11,6 @@ use std::test::Fail;
 use test_folders::folders::{Mem, add, put_words};
 use test_folders::many::{ENTRIES, OTHERS, Sort, many, plain};
 use test_folders::mended::mend;
-use test_same::assert_same;
 
 // How many of so many entries are kept, and all the folder calls of the consistency check.
 fn counts(alloc: Global, sort: Sort, entries: u32) -> Result<(u64, u64), Fail> {

@@ -19,3 +19,5 @@ mod printed_reasons;
 mod reasons;
 #[cfg(test)]
 mod repairs;
+#[cfg(test)]
+mod same;

@@ -1,10 +1,10 @@
 // The longest lists and chains, over several block files.
+use crate::same::assert_same;
 use blk_index::make;
 use blk_io::{Failed, FileId, Folder, MemFolder, SilentFolder};
 use std::alloc::Global;
 use std::test::Fail;
 use test_folders::folders::{HEAD, Mem, NODE_NEXT, audited, dropped_at, put_words};
-use test_same::assert_same;
 
 // The blocks of a full block file.
 const FULL: u32 = 64896;

@@ -1,4 +1,5 @@
 // Objects that are made and removed, in an opaque folder in memory.
+use crate::same::assert_same;
 use blk_chain::find;
 use blk_disk::BlockFiles;
 use blk_entry::node_of;
@@ -8,7 +9,6 @@ use blk_object::{Made, make_entry, remove_item};
 use std::alloc::Global;
 use std::test::Fail;
 use test_folders::folders::{HEAD, Mem, give_blocks};
-use test_same::assert_same;
 
 // The number of the session, and a moment with its two words.
 const MARK: u32 = 7;

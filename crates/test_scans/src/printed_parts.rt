@@ -2,12 +2,12 @@
 use crate::printed_entries::{
     IEV, PARENT, STREAMS, all_entries, cut, holds, no_entries, shows, twins,
 };
+use crate::same::assert_same_at;
 use blk_inspect::{InspectFault, Part};
 use blk_io::{MemFolder, SilentFolder};
 use std::test::Fail;
 use test_folders::folders::Change::Index;
 use test_folders::folders::{OPERATION, TRANSACTION, change_all};
-use test_same::assert_same_at;
 
 // The parts of a folder with no entry.
 const OF_NONE: [(Part, &str); 7] = [

@@ -1,5 +1,6 @@
 // The repair of the same folders, and a crash at each of its words.
 use crate::cases::{Case, TABLES};
+use crate::same::assert_same;
 use blk_audit::ScanFault;
 use blk_disk::BlockFiles;
 use blk_index::make;
@@ -17,7 +18,6 @@ use test_folders::mended::{changed, mend};
 use test_folders::stopped::{PUT_BACK, STOPPED};
 use test_folders::stopping::{Mem, again, empty};
 use test_folders::worked::{IEV, NAB};
-use test_same::assert_same;
 
 // The words of the index that are written where nothing is to be repaired: this_id and crash.
 const INDEX_WORDS: u64 = 2;

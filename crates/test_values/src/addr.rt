@@ -1,7 +1,7 @@
 // Words, sizes and used blocks from the description of the forms.
+use crate::same::{assert_same, assert_same_at};
 use blk_addr::laws::from_word_of_word;
 use blk_addr::{Addr, Claims, FileId, Kind, blocks_for, entry_blocks, kind_for};
-use test_same::{assert_same, assert_same_at};
 
 #[test]
 fn words_are_addresses(rt: HostRuntime) {

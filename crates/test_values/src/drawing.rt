@@ -1,8 +1,8 @@
 // What is drawn from a seed, and what is counted.
+use crate::same::assert_same;
 use blk_gen::{Counts, Draws, Turn, fill};
 use blk_io::MemSink;
 use blk_model::{Answer, Refusal};
-use test_same::assert_same;
 
 #[test]
 fn the_draws_of_the_seed_0(rt: HostRuntime) {

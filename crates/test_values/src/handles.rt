@@ -3,10 +3,10 @@
 ghost use Rattle.std.specs.Prelude.{◌≡◌, IsTrue};
 ghost use Rattle.std.specs.Option.{ForSome};
 
+use crate::same::{assert_same, assert_same_at};
 use blk_addr::{Addr, Kind};
 use blk_handles::{Handles, NAMES, OpenObject, Released};
 use std::test::Fail;
-use test_same::{assert_same, assert_same_at};
 
 // The record and the node of the object with a number.
 fn entry(number: u16) -> Addr {

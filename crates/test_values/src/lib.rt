@@ -16,4 +16,6 @@ mod record;
 #[cfg(test)]
 mod record_views;
 #[cfg(test)]
+mod same;
+#[cfg(test)]
 mod script;

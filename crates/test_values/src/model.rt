@@ -1,6 +1,6 @@
 // Limits from outside.
+use crate::same::assert_same;
 use blk_model::limits;
-use test_same::assert_same;
 
 #[test]
 fn limits_are_refused_outside_their_bounds(rt: HostRuntime) {

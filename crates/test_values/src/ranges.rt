@@ -5,13 +5,13 @@ ghost use Rattle.std.specs.Int.{cast_unsigned, w64};
 ghost use Rattle.blk_model.specs.Sizes.{longest_key, part_count, signatures};
 ghost use Rattle.blk_ranges.specs.PartMaps.{IsPartMap};
 
+use crate::same::assert_same;
 use blk_ranges::{
     ChildName, ParentHead, ParentMap, PartMap, child_name, child_of, has_part_bit, place_of_part,
     read_child_name, with_part_bit,
 };
 use std::alloc::{AllocError, Global};
 use std::test::Fail;
-use test_same::assert_same;
 
 // Sixty writes in no order over one part.
 const WRITES: [(u32, u32); 60] = [

@@ -1,7 +1,7 @@
 // Headers that were made by hand.
+use crate::same::assert_same;
 use blk_record::{BlockHead, IndexHead};
 use std::test::Fail;
-use test_same::assert_same;
 
 // The first fields of an index: its magic and version, 2 items, 300 at the place of the first version's sum, external number 7,
 // session 5, no stats, the table's length, an open session, no experiment, a moment, a sum of eight bytes.

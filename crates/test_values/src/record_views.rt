@@ -6,13 +6,13 @@ ghost use Rattle.spec_format.specs.Records.{entry_size};
 ghost use Rattle.blk_record.specs.Fields.{IsField, OtherFieldsStay};
 
 use crate::record::number_words;
+use crate::same::{assert_same, assert_same_at};
 use bitflags::Flags;
 use blk_record::{
     EntryFlags, EntryMut, EntryView, NodeMut, NodeView, Record, RecordMut, SparseHead,
     lent_fields_are_set, super_fast_hash,
 };
 use std::test::Fail;
-use test_same::{assert_same, assert_same_at};
 
 // The hash of n bytes, of which byte j is 37 * n + 89 * j + 11 modulo 256.
 const MIXED: [u32; 41] = [

@@ -1,3 +1,4 @@
+use crate::same::{assert_same, assert_same_at};
 use blk_io::{Failed, MemSink, Sink};
 use blk_model::{Answer, Command, Refusal};
 use blk_script::{
@@ -7,7 +8,6 @@ use blk_script::{
 use std::alloc::Global;
 use std::process::Abort;
 use std::test::Fail;
-use test_same::{assert_same, assert_same_at};
 
 // Reads a short line, and compares what it says.
 fn says(rt: &impl Abort, line: &str, want: Result<Command, LineFault>) {

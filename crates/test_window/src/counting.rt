@@ -1,4 +1,5 @@
 // The calls of a long session on the folder, with a window over it and without.
+use crate::same::assert_same;
 use crate::traced::{newly_traced, window_over};
 use blk_io::{Folder, ListClock, MemFolder, MemSink, MemSource, NoMemory};
 use blk_model::{Limits, MOST_ITEMS};
@@ -6,7 +7,6 @@ use blk_run::{Status, session};
 use itoa::Buffer;
 use std::alloc::Global;
 use std::test::Fail;
-use test_same::assert_same;
 
 // As many pages as the program keeps.
 const PAGES: u16 = 64;

@@ -1,10 +1,10 @@
 // Reads over a window of two pages, of which one fails.
+use crate::same::{assert_same, assert_same_at};
 use crate::traced::window_over;
 use blk_io::{Failed, FileId, Folder, MemFolder, NoMemory};
 use blk_window::Window;
 use std::alloc::Global;
 use std::test::Fail;
-use test_same::{assert_same, assert_same_at};
 
 // How many bytes the index has.
 const LENGTH: usize = 10_000;

@@ -10,4 +10,6 @@ mod random;
 #[cfg(test)]
 mod rows;
 #[cfg(test)]
+mod same;
+#[cfg(test)]
 mod traced;

@@ -1,4 +1,5 @@
 // Sessions over a window of two pages, beside the same sessions without one.
+use crate::same::assert_same;
 use crate::traced::{newly_traced, window_over};
 use blk_io::{Folder, ListClock, MemFolder, MemSink, MemSource};
 use blk_model::{Limits, MOST_ITEMS};
@@ -6,7 +7,6 @@ use blk_run::{Status, session};
 use std::alloc::Global;
 use std::test::Fail;
 use test_folders::inputs::{Pieces, text_of};
-use test_same::assert_same;
 
 // An input limit of more bytes than any of these inputs has.
 const BUDGET: u64 = 100_000;

@@ -1,0 +1,2 @@
+// How the tests here compare values.
+test_same::comparisons! {}
