@@ -37,11 +37,11 @@ high-small x high small is = omega (arith, small, is)
 -- once its two words are written, it is counted
 module _ (from image : Image) (x : ℕ) (l : IsIndexLong 48 x from image) where
   leaves : (p : ℕ) → p % 4 ≡ 0 → (p == 52) ≡ false → (p == 48) ≡ false → word image Index p ≡ word from Index p
-  leaves p aligned high low = other-word l.between image 52 refl (lit≤ tt) refl refl l.high.outside p aligned high ∙ other-word from l.between 48 refl (lit≤ tt) refl refl l.low.outside p aligned low
+  leaves p aligned high low = other-word l.between image 52 refl (lit≤ tt) refl l.high.outside p aligned high ∙ other-word from l.between 48 refl (lit≤ tt) refl l.low.outside p aligned low
 
   sum-there : num_bytes64_of (byte image Index) ≡ x
   sum-there =
-      let low : word image Index 48 ≡ x % 4294967296 = other-word l.between image 52 refl (lit≤ tt) refl refl l.high.outside 48 refl refl ∙ l.low.there in
+      let low : word image Index 48 ≡ x % 4294967296 = other-word l.between image 52 refl (lit≤ tt) refl l.high.outside 48 refl refl ∙ l.low.there in
       let high : word image Index 52 ≡ x / 4294967296 = l.high.there in
       omega (arith, low, high)
 
