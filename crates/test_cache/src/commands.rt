@@ -1,5 +1,5 @@
 // Commands on a cache of many objects.
-use crate::same::assert_same;
+use crate::same::Check;
 use blk_cache::StepFault;
 use blk_io::{Failed, FileId, Folder};
 use blk_model::{Answer, Command, Refusal};
@@ -59,12 +59,12 @@ fn objects_are_found_by_their_chains(rt: HostRuntime) -> Result<(), Fail> {
         assert!(rt; calls <= 5);
     }
     assert!(rt; most <= 70, "{most} calls");
-    assert_same(&rt, growths, 4);
+    Check::same(&rt, growths, 4);
     let (answer, calls) = open(&mut session, 0, b"zz")?;
-    assert_same(&rt, answer, Answer::Refused(Refusal::Missing));
+    Check::same(&rt, answer, Answer::Refused(Refusal::Missing));
     assert!(rt; calls <= 2);
     let (answer, calls) = open(&mut session, 0, b"k2000")?;
-    assert_same(&rt, answer, Answer::Done);
+    Check::same(&rt, answer, Answer::Done);
     assert!(rt; calls <= 41);
     Ok(())
 }

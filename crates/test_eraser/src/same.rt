@@ -1,2 +1,6 @@
 // How the tests here compare values.
-test_same::comparisons! {}
+
+/// Compares values of tests.
+pub struct Check;
+
+test_same::comparisons! { Check }
