@@ -1,5 +1,9 @@
 # What the scripts share. Each is run by tests/run with the program's path, and ends with a call of finish.
 set -u
+[ $# != 0 ] || {
+    echo "usage: tests/${0##*/} PROGRAM" >&2
+    exit 2
+}
 export LC_ALL=C
 top=$(cd "$(dirname "${BASH_SOURCE[0]}")/.." && pwd)
 case $1 in /*) program=$1 ;; *) program=$PWD/$1 ;; esac

@@ -57,7 +57,7 @@ refused() {
     is "$1: nothing is removed" "$before" "$(names)"
 }
 fill
-refused 'without a terminal' 2 'blkcache: reset asks on a terminal; elsewhere it is told by reset --yes' "$folder" reset
+refused 'without a terminal' 2 'blkcache: without a terminal, use reset --yes' "$folder" reset
 for words in 'reset --no' 'reset --yes --yes' 'reset index'; do
     # shellcheck disable=SC2086
     refused "the words $words" 2 usage "$folder" $words

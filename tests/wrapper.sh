@@ -590,7 +590,7 @@ is '--prove finds none' "1 proved, 0 of 4 crates anew; there is no $hand/blkcach
 lay
 rm "$hand/blkcache"
 wrap --program
-is '--program builds nothing' "70 blkcache: $hand/blkcache is missing git is asked" "$status $said$complained $called"
+is '--program builds nothing' "70 blkcache: $hand/blkcache is missing; use blkcache --prove to build the program git is asked" "$status $said$complained $called"
 
 # dist/renew makes the program that was built the one at hand, and dist/check tells whether it is.
 cp "$top/dist/common.sh" "$top/dist/renew" "$top/dist/check" "$repository/dist"
