@@ -1,5 +1,5 @@
 // The end of a session whose handles are open.
-use crate::same::Check;
+use crate::same::assert_same;
 use std::test::Fail;
 use test_folders::stopping::empty;
 use test_sessions::sessions::{LIMITS, Session, held};
@@ -14,8 +14,8 @@ fn the_bound_names_are_closed_one_after_another(rt: HostRuntime) -> Result<(), F
     }
     assert!(rt; !session.cache.has_names());
     assert!(rt; !session.cache.close_next(&mut session.f, 100)?);
-    Check::same(&rt, session.out.written(), b"ok\nok\nok\n");
+    assert_same(&rt, session.out.written(), b"ok\nok\nok\n");
     let (items, bytes, _) = held(rt.alloc(), session.f)?;
-    Check::same(&rt, (items, bytes), (2, 2));
+    assert_same(&rt, (items, bytes), (2, 2));
     Ok(())
 }

@@ -1,5 +1,5 @@
 // Commands on a cache of many objects.
-use crate::same::Check;
+use crate::same::assert_same;
 use blk_cache::StepFault;
 use blk_io::{Failed, FileId, Folder};
 use blk_model::{Answer, Command, Refusal};
@@ -59,12 +59,12 @@ fn objects_are_found_by_their_chains(rt: HostRuntime) -> Result<(), Fail> {
         assert!(rt; calls <= 5);
     }
     assert!(rt; most <= 70, "{most} calls");
-    Check::same(&rt, growths, 4);
+    assert_same(&rt, growths, 4);
     let (answer, calls) = open(&mut session, 0, b"zz")?;
-    Check::same(&rt, answer, Answer::Refused(Refusal::Missing));
+    assert_same(&rt, answer, Answer::Refused(Refusal::Missing));
     assert!(rt; calls <= 2);
     let (answer, calls) = open(&mut session, 0, b"k2000")?;
-    Check::same(&rt, answer, Answer::Done);
+    assert_same(&rt, answer, Answer::Done);
     assert!(rt; calls <= 41);
     Ok(())
 }

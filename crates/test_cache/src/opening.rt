@@ -1,5 +1,5 @@
 // The opening and the end of a cache: on an empty folder, on one of many entries, and on corrupt ones where it crashes.
-use crate::same::Check;
+use crate::same::assert_same;
 use blk_audit::ScanFault;
 use blk_cache::{Cache, OpenFault};
 use blk_io::{FileId, Folder, MemFolder, SilentFolder, read_word};
@@ -51,8 +51,8 @@ fn an_empty_folder_is_opened_and_ended(rt: HostRuntime) -> Result<(), Fail> {
     let mut f = SilentFolder::new(MemFolder::without_trail(rt.alloc()));
     for (number, most) in [(1, 60), (2, 74)] {
         let (shown, opening, ending) = session(rt.alloc(), &mut f)?;
-        Check::same(&rt, shown, ((0, 0), number, [1, 0]));
-        Check::same(&rt, ending, 1);
+        assert_same(&rt, shown, ((0, 0), number, [1, 0]));
+        assert_same(&rt, ending, 1);
         assert!(rt; opening <= most, "{opening} calls");
     }
     Ok(())
@@ -64,8 +64,8 @@ fn a_clean_folder_of_4000_entries_is_opened_by_few_calls(rt: HostRuntime) -> Res
     session(rt.alloc(), &mut f)?;
     let (shown, opening, ending) = session(rt.alloc(), &mut f)?;
     let ((items, _), number, crash) = shown;
-    Check::same(&rt, (items, number, crash), (4000, 2, [1, 0]));
-    Check::same(&rt, ending, 1);
+    assert_same(&rt, (items, number, crash), (4000, 2, [1, 0]));
+    assert_same(&rt, ending, 1);
     assert!(rt; opening <= 260, "{opening} calls");
     Ok(())
 }

@@ -1,5 +1,5 @@
 // An object with two parts, in a folder that is written by the format alone.
-use crate::same::Check;
+use crate::same::assert_same;
 use blk_chain::find;
 use blk_disk::BlockFiles;
 use blk_entry::node_of;
@@ -225,12 +225,12 @@ fn parts_go_after_their_object(rt: HostRuntime) -> Result<(), Fail> {
         bytes: 2454,
     };
     let mut f = in_session(rt.alloc())?;
-    Check::same(&rt, parts_dropped(&mut f), Ok((both, BOTH)));
-    Check::same(&rt, held(rt.alloc(), f)?, (0, 0, 0));
+    assert_same(&rt, parts_dropped(&mut f), Ok((both, BOTH)));
+    assert_same(&rt, held(rt.alloc(), f)?, (0, 0, 0));
     for (telling, told) in [(true, BOTH), (false, NONE)] {
         let mut f = in_session(rt.alloc())?;
-        Check::same(&rt, children_dropped(&mut f, telling), Ok((2, told)));
-        Check::same(&rt, held(rt.alloc(), f)?, (0, 0, 0));
+        assert_same(&rt, children_dropped(&mut f, telling), Ok((2, told)));
+        assert_same(&rt, held(rt.alloc(), f)?, (0, 0, 0));
     }
     Ok(())
 }
@@ -247,8 +247,8 @@ fn an_object_is_removed_or_doomed_with_its_parts(rt: HostRuntime) -> Result<(), 
     };
     for (dooms, gone, told) in [(false, removed, BOTH), (true, doomed, NONE)] {
         let mut f = in_session(rt.alloc())?;
-        Check::same(&rt, whole_gone(&mut f, dooms), Ok((gone, told)));
-        Check::same(&rt, held(rt.alloc(), f)?, (0, 0, 0));
+        assert_same(&rt, whole_gone(&mut f, dooms), Ok((gone, told)));
+        assert_same(&rt, held(rt.alloc(), f)?, (0, 0, 0));
     }
     Ok(())
 }
@@ -261,21 +261,21 @@ fn no_list_is_walked_where_no_bit_is_set(rt: HostRuntime) -> Result<(), Fail> {
         (Going::ByRecord, 0),
     ] {
         let (gone, calls) = calls_of(rt.alloc(), going, NO_PART, 1)?;
-        Check::same(&rt, gone, items);
-        Check::same(
+        assert_same(&rt, gone, items);
+        assert_same(
             &rt,
             calls_of(rt.alloc(), going, NO_PART, 4)?,
             (items, calls),
         );
         // Where a bit is set, each item of the list takes three calls.
         let walked = calls.wrapping_add(4);
-        Check::same(
+        assert_same(
             &rt,
             calls_of(rt.alloc(), going, TWO_PARTS, 1)?,
             (items, walked),
         );
         let longer = walked.wrapping_add(9);
-        Check::same(
+        assert_same(
             &rt,
             calls_of(rt.alloc(), going, TWO_PARTS, 4)?,
             (items, longer),

@@ -1,6 +1,6 @@
 // The walk and the chains of a small opaque folder in memory.
 use crate::folders::put_all;
-use crate::same::Check;
+use crate::same::assert_same;
 use blk_addr::Claims;
 use blk_audit::{ScanFault, Walked, chains, read_lists, walk};
 use blk_disk::BlockFiles;
@@ -86,9 +86,9 @@ fn walked_on(alloc: Global, f: &mut Silent) -> Result<[[u32; 3]; 2], ScanFault> 
 fn a_walk_goes_along_the_completed_list(rt: HostRuntime) -> Result<(), Fail> {
     let [a, b, c] = NODES;
     let mut f = listed(rt.alloc())?;
-    Check::same(&rt, walked(rt.alloc(), &mut f), Ok(([b, c, a], 3)));
+    assert_same(&rt, walked(rt.alloc(), &mut f), Ok(([b, c, a], 3)));
     let on = [[b, a, 0], [b, c, a]];
-    Check::same(&rt, walked_on(rt.alloc(), &mut f), Ok(on));
+    assert_same(&rt, walked_on(rt.alloc(), &mut f), Ok(on));
     Ok(())
 }
 
@@ -152,8 +152,8 @@ fn read(alloc: Global, f: &mut Silent) -> Result<(usize, usize, [bool; 2], u64),
 fn a_chain_ends_before_another_bucket_and_before_a_met_record(rt: HostRuntime) -> Result<(), Fail> {
     let mut f = chained(rt.alloc())?;
     let chain = (2, Some(RECORDS[1]), 7);
-    Check::same(&rt, reached(rt.alloc(), &mut f), Ok(chain));
+    assert_same(&rt, reached(rt.alloc(), &mut f), Ok(chain));
     let lists = (3, 3, [true, false], 8);
-    Check::same(&rt, read(rt.alloc(), &mut f), Ok(lists));
+    assert_same(&rt, read(rt.alloc(), &mut f), Ok(lists));
     Ok(())
 }

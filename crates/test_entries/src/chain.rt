@@ -4,7 +4,7 @@ ghost use Rattle.spec_format.specs.Address.{blocks_256, kind_of};
 ghost use Rattle.blk_disk.specs.Tables.{stands_among};
 
 use crate::folders::put_all;
-use crate::same::Check;
+use crate::same::assert_same;
 use blk_addr::{Addr, Kind};
 use blk_chain::{Found, find, link_front, unlink};
 use blk_disk::BlockFiles;
@@ -182,7 +182,7 @@ fn taken(alloc: Global, key: usize) -> Result<(bool, Three, bool), Fault>
 #[test]
 fn each_of_three_records_of_one_bucket_is_unlinked(rt: HostRuntime) {
     for key in 0..3usize {
-        Check::same(&rt, taken(rt.alloc(), key), Ok((true, WITHOUT[key], false)));
+        assert_same(&rt, taken(rt.alloc(), key), Ok((true, WITHOUT[key], false)));
     }
 }
 
@@ -203,7 +203,7 @@ fn emptied(alloc: Global) -> Result<([Three; 3], u32), Fault> {
 #[test]
 fn a_chain_is_emptied_record_by_record(rt: HostRuntime) {
     let one = [Some((WORDS[0], 0)), None, None];
-    Check::same(
+    assert_same(
         &rt,
         emptied(rt.alloc()),
         Ok(([WITHOUT[1], one, [None; 3]], 0)),
@@ -223,7 +223,7 @@ fn twins(alloc: Global) -> Result<(Option<(u32, u32)>, Option<(u32, u32)>, u64),
 
 #[test]
 fn keys_of_one_hash_are_told_apart(rt: HostRuntime) {
-    Check::same(&rt, super_fast_hash(TWINS[0]), super_fast_hash(TWINS[1]));
+    assert_same(&rt, super_fast_hash(TWINS[0]), super_fast_hash(TWINS[1]));
 
     // Eight calls load the files, one reads the word of the bucket, and two each record and its key.
     let found = (
@@ -231,7 +231,7 @@ fn keys_of_one_hash_are_told_apart(rt: HostRuntime) {
         Some((WORDS[1], 0)),
         8 + 1 + 2 + 2,
     );
-    Check::same(&rt, twins(rt.alloc()), Ok(found));
+    assert_same(&rt, twins(rt.alloc()), Ok(found));
 }
 
 // The folder calls that it takes to find the last of three records of other hashes.
@@ -245,7 +245,7 @@ fn calls_of_finding(alloc: Global) -> Result<u64, Fault> {
 #[test]
 fn records_of_other_hashes_are_passed_by_one_call_each(rt: HostRuntime) {
     // Two records are passed, and two calls read the last and its key.
-    Check::same(&rt, calls_of_finding(rt.alloc()), Ok(8 + 1 + 2 + 2));
+    assert_same(&rt, calls_of_finding(rt.alloc()), Ok(8 + 1 + 2 + 2));
 }
 
 // What is found of a key: of a part where there is none, of a part, and of an entry that is none, with the
@@ -266,7 +266,7 @@ fn a_child_has_another_name(rt: HostRuntime) {
     let found = [None, Some((WORDS[1], 0)), Some((WORDS[0], WORDS[1]))];
 
     // The part's record is passed by one call.
-    Check::same(&rt, with_child(rt.alloc()), Ok((found, 8 + 1 + 1 + 2)));
+    assert_same(&rt, with_child(rt.alloc()), Ok((found, 8 + 1 + 1 + 2)));
 }
 
 // Makes the bucket of a key name this record.
@@ -303,7 +303,7 @@ fn behind_another_length(alloc: Global) -> Result<(Option<(u32, u32)>, u64), Fau
 fn a_record_of_another_length_is_passed_by_one_call(rt: HostRuntime) {
     // Eight calls load the files, and one reads the word of the bucket.
     let found = (Some((WORDS[0], WORDS[1])), 8 + 1 + 1 + 2);
-    Check::same(&rt, behind_another_length(rt.alloc()), Ok(found));
+    assert_same(&rt, behind_another_length(rt.alloc()), Ok(found));
 }
 
 // A search for a key of 32768 bytes, which are in an external file.
@@ -327,7 +327,7 @@ fn the_longest_key_is_found_by_three_calls_for_its_record(rt: HostRuntime) -> Re
 
     // The record, and two pieces of the key.
     let found = (Some((WORDS[0], 0)), 8 + 1 + 3);
-    Check::same(&rt, external(rt.alloc(), &key), Ok(found));
+    assert_same(&rt, external(rt.alloc(), &key), Ok(found));
     Ok(())
 }
 
@@ -352,7 +352,7 @@ fn damage(at: u32, found: u32) -> Fault {
 fn a_loop_of_records_ends(rt: HostRuntime) {
     // Eight calls load the files, one reads the word of the bucket, and one each record.
     let found = (Err(damage(4, WORDS[0])), 8 + 1 + 131_073);
-    Check::same(&rt, search(rt.alloc(), WORDS[0]), Ok(found));
+    assert_same(&rt, search(rt.alloc(), WORDS[0]), Ok(found));
 }
 
 #[test]
@@ -360,9 +360,9 @@ fn a_word_that_names_no_record_is_a_damage(rt: HostRuntime) {
     // No address, a node, and a record past the end of its file.
     for wrong in [0x2001_0000, 0x9000_0000, 0xA001_0100] {
         let found = (Err(damage(4, wrong)), 8 + 1 + 1);
-        Check::same(&rt, search(rt.alloc(), wrong), Ok(found));
+        assert_same(&rt, search(rt.alloc(), wrong), Ok(found));
     }
-    Check::same(&rt, search(rt.alloc(), 0), Ok((Ok(None), 8 + 1 + 1)));
+    assert_same(&rt, search(rt.alloc(), 0), Ok((Ok(None), 8 + 1 + 1)));
 }
 
 // A search for the only key, in a record whose checksum is 5.
@@ -374,7 +374,7 @@ fn unsealed(alloc: Global) -> Result<Option<(u32, u32)>, Fault> {
 
 #[test]
 fn a_record_that_does_not_check_is_a_damage(rt: HostRuntime) {
-    Check::same(&rt, unsealed(rt.alloc()), Err(damage(92, 5)));
+    assert_same(&rt, unsealed(rt.alloc()), Err(damage(92, 5)));
 }
 
 // What is found of the three keys when one is unlinked and so many words are written, and whether it was unlinked.
@@ -392,14 +392,14 @@ fn stopped_taking(alloc: Global, key: usize, steps: u64) -> Result<(bool, Three)
 fn unlinking_takes_effect_at_one_word(rt: HostRuntime) {
     // The word of the bucket.
     for (steps, done, found) in [(0, false, WHOLE), (1, true, WITHOUT[2])] {
-        Check::same(&rt, stopped_taking(rt.alloc(), 2, steps), Ok((done, found)));
+        assert_same(&rt, stopped_taking(rt.alloc(), 2, steps), Ok((done, found)));
     }
 
     // The checksum of the record before, its next, and the checksum.
     for key in 0..2usize {
         for steps in 0..4 {
             let found = if steps < 2 { WHOLE } else { WITHOUT[key] };
-            Check::same(
+            assert_same(
                 &rt,
                 stopped_taking(rt.alloc(), key, steps),
                 Ok((steps == 3, found)),
@@ -428,6 +428,6 @@ fn stopped_linking(alloc: Global, steps: u64) -> Result<(bool, Three), Fault> {
 
 #[test]
 fn linking_takes_effect_at_one_word(rt: HostRuntime) {
-    Check::same(&rt, stopped_linking(rt.alloc(), 0), Ok((false, WITHOUT[2])));
-    Check::same(&rt, stopped_linking(rt.alloc(), 1), Ok((true, WHOLE)));
+    assert_same(&rt, stopped_linking(rt.alloc(), 0), Ok((false, WITHOUT[2])));
+    assert_same(&rt, stopped_linking(rt.alloc(), 1), Ok((true, WHOLE)));
 }

@@ -6,7 +6,7 @@ ghost use Rattle.blk_entry.specs.Keys.{may_hold, most_key};
 ghost use Rattle.blk_entry.specs.Writing.{FitsKey};
 
 use crate::folders::{SIZE, put_files};
-use crate::same::Check;
+use crate::same::assert_same;
 use blk_addr::{Addr, Kind};
 use blk_disk::BlockFiles;
 use blk_entry::{
@@ -230,8 +230,8 @@ fn a_node_is_marked_and_clean_again(rt: HostRuntime) -> Result<(), Fail> {
     f.write_at(FileId::Block(0), NODE_AT + 24, &contents)?;
 
     // Eight calls load the files, one reads the node, one writes the checksum 0, and one the dirty flag and the checksum after it.
-    Check::same(&rt, marked(&mut f, 7), Ok((8 + 1 + 2, [7, DIRTY_SEAL])));
-    Check::same(&rt, marked(&mut f, 0), Ok((8 + 1 + 2, [0, CLEAN_SEAL])));
+    assert_same(&rt, marked(&mut f, 7), Ok((8 + 1 + 2, [7, DIRTY_SEAL])));
+    assert_same(&rt, marked(&mut f, 0), Ok((8 + 1 + 2, [0, CLEAN_SEAL])));
     Ok(())
 }
 
@@ -273,11 +273,11 @@ fn a_wrong_record_is_a_damage(rt: HostRuntime) -> Result<(), Fail> {
     for wrong in [0x2001_0000, 0xC003_0000, 0xA301_0400] {
         let damage = Some((FileId::Block(1), 8192 + 36, wrong));
         let damages = with_long_key(&mut f, wrong, &key);
-        Check::same(&rt, damages, Ok([damage, damage]));
+        assert_same(&rt, damages, Ok([damage, damage]));
     }
     let length = Some((FileId::Block(1), 8192 + 32, 928));
     let seal = Some((FileId::Block(1), 8192 + 92, 5));
-    Check::same(&rt, with_wrong_words(&mut f), Ok([length, seal]));
+    assert_same(&rt, with_wrong_words(&mut f), Ok([length, seal]));
     Ok(())
 }
 
@@ -300,7 +300,7 @@ fn too_few_bytes_are_a_damage(rt: HostRuntime) -> Result<(), Fail> {
     let second = Some((FileId::External(1), 16398, 19000 - 16398));
     let end = Some((FileId::External(1), 18995, 5));
     let record = Some((FileId::Block(1), 8192, 94));
-    Check::same(&rt, with_cut_files(&mut f, &key), Ok([second, end, record]));
+    assert_same(&rt, with_cut_files(&mut f, &key), Ok([second, end, record]));
     Ok(())
 }
 
@@ -318,8 +318,8 @@ fn a_node_that_does_not_check_is_not_marked(rt: HostRuntime) -> Result<(), Fail>
 
     // Eight calls load the files each time, and one reads the node.
     let wrong = Some((FileId::Block(0), NODE_AT + 32, 5));
-    Check::same(&rt, unmarked(&mut f), ([wrong, wrong], 2 * (8 + 1)));
-    Check::same(&rt, node_words(&mut f), Ok([0, 5]));
+    assert_same(&rt, unmarked(&mut f), ([wrong, wrong], 2 * (8 + 1)));
+    assert_same(&rt, node_words(&mut f), Ok([0, 5]));
     Ok(())
 }
 
@@ -576,21 +576,21 @@ fn new_entries_are_written_and_read(rt: HostRuntime) -> Result<(), Fail> {
 
         // Eight calls load the files, and four write.
         let calls = calls_of_writing(&mut f, words, child, &key);
-        Check::same(&rt, calls, Ok(8 + 4));
+        assert_same(&rt, calls, Ok(8 + 4));
         assert!(rt; is_written(&mut f, words, child, &key, &mut read)?);
         assert!(rt; spares_the_rest(rt.alloc(), &mut f, long_key, key_len)?);
 
         // The key is read in two pieces.
         read.fill(0);
         let pieces = halves(&mut f, entry, &mut read);
-        Check::same(&rt, pieces, Ok([size / 2, size - size / 2]));
-        Check::same(&rt, &read, &key);
+        assert_same(&rt, pieces, Ok([size / 2, size - size / 2]));
+        assert_same(&rt, &read, &key);
 
         // Eight calls load the files, one reads the record, and one reads the key, or two a longer one. Where length or hash
         // differ the key isn't read.
         let pieces = if key_len > 16398 { 2 } else { 1 };
         let answers = [(true, 8 + 1 + pieces), (false, 8 + 1), (false, 8 + 1)];
-        Check::same(&rt, counted_three(&mut f, entry, &mut key), Ok(answers));
+        assert_same(&rt, counted_three(&mut f, entry, &mut key), Ok(answers));
     }
     Ok(())
 }

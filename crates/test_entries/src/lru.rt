@@ -3,7 +3,7 @@ ghost use Rattle.std.specs.Prelude.{IfSome, IsTrue};
 ghost use Rattle.blk_disk.specs.Tables.{is_node_among};
 
 use crate::folders::put_all;
-use crate::same::Check;
+use crate::same::assert_same;
 use blk_addr::Addr;
 use blk_disk::BlockFiles;
 use blk_io::{
@@ -189,11 +189,11 @@ fn three_nodes_are_inserted_one_is_touched_and_one_removed(rt: HostRuntime) -> R
     let (mut f, files) = listing(rt.alloc(), &NODES)?;
     let touched = ([one, zero, 0, 1], [zero, two, zero], [two, one, one]);
     let touch = changed(&mut f, &files, Change::Touch, one);
-    Check::same(&rt, touch, Ok(touched));
-    Check::same(&rt, times(&mut f, one), Ok(TIMES));
+    assert_same(&rt, touch, Ok(touched));
+    assert_same(&rt, times(&mut f, one), Ok(TIMES));
     let removed = ([one, zero, 0, 2], [zero, zero, 0], [one, one, one]);
     let remove = changed(&mut f, &files, Change::Remove, two);
-    Check::same(&rt, remove, Ok(removed));
+    assert_same(&rt, remove, Ok(removed));
     Ok(())
 }
 
@@ -250,7 +250,7 @@ fn reading_takes_one_call(rt: HostRuntime) -> Result<(), Fail> {
         (Reading::After, zero, 0),
     ] {
         let read = counted_look(&mut f, &files, from, word);
-        Check::same(&rt, read, Ok((found, 1)));
+        assert_same(&rt, read, Ok((found, 1)));
     }
     Ok(())
 }
@@ -264,7 +264,7 @@ fn changes_take_few_calls(rt: HostRuntime) -> Result<(), Fail> {
         (Change::Touch, one, 36),
         (Change::Remove, two, 17),
     ] {
-        Check::same(&rt, calls_of(&mut f, &files, change, word), Ok(calls));
+        assert_same(&rt, calls_of(&mut f, &files, change, word), Ok(calls));
     }
     Ok(())
 }
@@ -316,7 +316,7 @@ fn touch_stopped_after_each_word_leaves_the_old_order_or_the_new(
         for steps in 0..30 {
             let (f, files) = stopped(rt.alloc(), &NODES, Change::Touch, word, steps)?;
             let order = if steps < 2 { [two, one, zero] } else { new };
-            Check::same(&rt, completed(f, &files, &[]), Ok(order));
+            assert_same(&rt, completed(f, &files, &[]), Ok(order));
         }
     }
     Ok(())
@@ -382,7 +382,7 @@ fn calls_of_completing(f: Silent, files: &BlockFiles) -> Result<[u64; 2], Fault>
 #[test]
 fn completing_takes_few_calls(rt: HostRuntime) -> Result<(), Fail> {
     let (f, files) = stopped(rt.alloc(), &NODES, Change::Touch, NODES[1], 2)?;
-    Check::same(&rt, calls_of_completing(f, &files), Ok([34, 1]));
+    assert_same(&rt, calls_of_completing(f, &files), Ok([34, 1]));
     Ok(())
 }
 
@@ -445,7 +445,7 @@ fn short_reads_are_damages(rt: HostRuntime) -> Result<(), Fail> {
     ] {
         let size = at.wrapping_add(u64::from(found));
         let damage = Fault::Damaged(Damage { file, at, found });
-        Check::same(&rt, cut(rt.alloc(), call, file, size)?, Err(damage));
+        assert_same(&rt, cut(rt.alloc(), call, file, size)?, Err(damage));
     }
     Ok(())
 }

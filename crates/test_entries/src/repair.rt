@@ -1,6 +1,6 @@
 // The LRU list that is made that of the kept nodes, in an opaque folder in memory.
 use crate::lru::{self, NODES, Shown};
-use crate::same::Check;
+use crate::same::assert_same;
 use blk_disk::BlockFiles;
 use blk_io::{Fault, FileId, write_word};
 use blk_record::IndexHead;
@@ -22,6 +22,6 @@ fn list_is_made_that_of_the_kept_nodes(rt: HostRuntime) -> Result<(), Fail> {
     let [zero, _, two] = NODES;
     let (mut f, files) = lru::listing(rt.alloc(), &NODES)?;
     let list = ([two, zero, 0, 2], [zero, 0, zero], [two, two, two]);
-    Check::same(&rt, mended_list(&mut f, &files), Ok(list));
+    assert_same(&rt, mended_list(&mut f, &files), Ok(list));
     Ok(())
 }

@@ -2,7 +2,7 @@
 ghost use Rattle.std.specs.Prelude.{◌<◌, length};
 
 use crate::folders::put_files;
-use crate::same::Check;
+use crate::same::assert_same;
 use blk_addr::{Addr, Kind};
 use blk_audit::WalkedNode;
 use blk_disk::BlockFiles;
@@ -124,7 +124,7 @@ fn a_wrong_word_is_a_reason(rt: HostRuntime) -> Result<(), Fail> {
         (ENTRY, 0, false, 10),
     ] {
         let found = number(&mut f, contents, dirty, reached);
-        Check::same(&rt, found, Ok(reason));
+        assert_same(&rt, found, Ok(reason));
     }
     for (at, old, word, reason) in [
         (92, 0u32, 1u32, 2u32),
@@ -138,9 +138,9 @@ fn a_wrong_word_is_a_reason(rt: HostRuntime) -> Result<(), Fail> {
         (72, 0, 1, 12),
         (72, 0, 2, 12),
     ] {
-        Check::same(&rt, reason_of(&mut f, at, old, word), Ok(reason));
+        assert_same(&rt, reason_of(&mut f, at, old, word), Ok(reason));
     }
-    Check::same(&rt, reasons_of_a_file(&mut f), Ok([11, 0]));
+    assert_same(&rt, reasons_of_a_file(&mut f), Ok([11, 0]));
     Ok(())
 }
 
@@ -191,9 +191,9 @@ fn reason_of_a_shorter_part(f: &mut Mem) -> Result<u32, Fault> {
 #[test]
 fn a_parent_and_a_part_have_their_index(rt: HostRuntime) -> Result<(), Fail> {
     let mut f = parent(rt.alloc())?;
-    Check::same(&rt, [has(&mut f, 0), has(&mut f, 1)], [Ok(true), Ok(false)]);
+    assert_same(&rt, [has(&mut f, 0), has(&mut f, 1)], [Ok(true), Ok(false)]);
     let mut f = part(rt.alloc())?;
-    Check::same(&rt, part_of(&mut f), Ok(Some(0)));
-    Check::same(&rt, reason_of_a_shorter_part(&mut f), Ok(12));
+    assert_same(&rt, part_of(&mut f), Ok(Some(0)));
+    assert_same(&rt, reason_of_a_shorter_part(&mut f), Ok(12));
     Ok(())
 }

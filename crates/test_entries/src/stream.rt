@@ -4,7 +4,7 @@ ghost use Rattle.spec_format.specs.Address.{blocks_256, kind_of};
 ghost use Rattle.blk_disk.specs.Tables.{stands_among};
 
 use crate::folders::{INDEX_LEN, put_files};
-use crate::same::Check;
+use crate::same::assert_same;
 use blk_addr::{Addr, Kind};
 use blk_disk::BlockFiles;
 use blk_io::{Damage, Failed, Fault, FileId, Folder, MemFolder, SilentFolder, StopFolder};
@@ -224,7 +224,7 @@ fn a_stream_lies_in_the_storage_of_its_length(rt: HostRuntime) -> Result<(), Fai
         let mut f = bare(rt.alloc())?;
         let bytes = pattern(rt.alloc(), 0, size)?;
         let found = Ok(([size as u32, addr], file, owned(size)));
-        Check::same(&rt, stored(&mut f, false, &bytes), found);
+        assert_same(&rt, stored(&mut f, false, &bytes), found);
     }
     Ok(())
 }
@@ -247,8 +247,8 @@ fn bytes_far_behind_the_end_come_after_zeros(rt: HostRuntime) -> Result<(), Fail
 
     // Two blocks of 4096 bytes, which are marked, and no others beside that of the record.
     let found = ((5, 2), [5003, 0xC103_0000], [(1, 1), (0, 0), (1, 2)]);
-    Check::same(&rt, write_far_behind(&mut f, &mut out), Ok(found));
-    Check::same(&rt, out, *b"\0\0abc\x07\x07\x07\x07");
+    assert_same(&rt, write_far_behind(&mut f, &mut out), Ok(found));
+    assert_same(&rt, out, *b"\0\0abc\x07\x07\x07\x07");
     Ok(())
 }
 
@@ -257,11 +257,11 @@ fn a_cut_to_few_bytes_leaves_the_file(rt: HostRuntime) -> Result<(), Fail> {
     let mut f = bare(rt.alloc())?;
     let bytes = pattern(rt.alloc(), 0, 20000)?;
     let whole = ([20000, 0x8000_0001], Some(20000), owned(20000));
-    Check::same(&rt, stored(&mut f, false, &bytes), Ok(whole));
+    assert_same(&rt, stored(&mut f, false, &bytes), Ok(whole));
 
     // One block of 256 bytes, after that of the record.
     let cut = ([10, 0xA001_0001], None, [(2, 2), (0, 0), (0, 0)]);
-    Check::same(&rt, stored(&mut f, true, &[b'z'; 10]), Ok(cut));
+    assert_same(&rt, stored(&mut f, true, &[b'z'; 10]), Ok(cut));
     Ok(())
 }
 
@@ -459,7 +459,7 @@ fn at_each_word_of_a_move_the_record_names_old_bytes_or_new(rt: HostRuntime) -> 
             cut,
             bytes: pattern(rt.alloc(), 100, count)?,
         };
-        Check::same(&rt, first_wrong(rt.alloc(), &write, sized, all)?, None);
+        assert_same(&rt, first_wrong(rt.alloc(), &write, sized, all)?, None);
     }
     Ok(())
 }
@@ -484,7 +484,7 @@ fn few_calls_write_a_stream(rt: HostRuntime) -> Result<(), Fail> {
     ];
     for (stream, offset, cut, count, calls) in cases {
         let bytes = pattern(rt.alloc(), offset, count)?;
-        Check::same(&rt, put(&mut f, stream, offset, cut, &bytes), Ok(calls));
+        assert_same(&rt, put(&mut f, stream, offset, cut, &bytes), Ok(calls));
     }
     Ok(())
 }
@@ -533,8 +533,8 @@ fn dropped_streams_leave_their_places(rt: HostRuntime) -> Result<(), Fail> {
     // One allocation, a group with three free blocks and 255 with four, updating, and the map; the record has its link, and
     // no stream.
     let words = [[1, 0, 0, 1, 255, 0, 1], [0xA001_0007, 0, 0, 0, 0, 0, 0]];
-    Check::same(&rt, dropped(&mut f), Ok((1 + 11 + 5, None, words)));
-    Check::same(&rt, empty(&mut f), Ok(1));
+    assert_same(&rt, dropped(&mut f), Ok((1 + 11 + 5, None, words)));
+    assert_same(&rt, empty(&mut f), Ok(1));
     Ok(())
 }
 
@@ -556,7 +556,7 @@ fn wrong_words_are_damages(rt: HostRuntime) -> Result<(), Fail> {
         at: 19997,
         found: 1,
     });
-    Check::same(&rt, get(&mut f, 1, 19997, &mut out), Err(cut));
+    assert_same(&rt, get(&mut f, 1, 19997, &mut out), Err(cut));
 
     // A size that no stream has, a storage of another size, blocks that aren't there, and an address of no bytes.
     let cases = [
@@ -570,7 +570,7 @@ fn wrong_words_are_damages(rt: HostRuntime) -> Result<(), Fail> {
         let at = 8192 + at;
         let wrong = Some(Fault::Damaged(Damage { file, at, found }));
         let faults = faults_of(&mut f, size, addr);
-        Check::same(&rt, faults, Ok([wrong, wrong]));
+        assert_same(&rt, faults, Ok([wrong, wrong]));
     }
     Ok(())
 }

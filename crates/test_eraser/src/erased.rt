@@ -1,6 +1,6 @@
 // What is freed, cut and deleted is full of zeros then, and nothing else has changed.
 use crate::files::{HEADER_LEN, MAP, OLD, block_file, folder_with, is_full_of};
-use crate::same::Check;
+use crate::same::{assert_same, assert_same_at};
 use blk_eraser::Eraser;
 use blk_io::{Failed, FileId, Folder};
 use std::alloc::Global;
@@ -43,7 +43,7 @@ fn freed_blocks_of_each_size_are_zeros(rt: HostRuntime) -> Result<(), Fail> {
             (0xB5, 0xA6, 0x11),
             (0x00, 0xFF, 0x00),
         ] {
-            Check::same_at(
+            assert_same_at(
                 &rt,
                 after_map(rt.alloc(), size, old, new)?,
                 Some(blank),
@@ -60,7 +60,7 @@ fn a_block_that_the_file_cuts_is_erased_as_far_as_it_goes(rt: HostRuntime) -> Re
     let mut f = Eraser::new(folder_with(rt.alloc(), BLOCKS, &bytes)?);
     f.write_at(BLOCKS, MAP, &[0x01])?;
     let mut inner = f.into_inner();
-    Check::same(&rt, inner.length(BLOCKS)?, Some(HEADER_LEN as u64 + 700));
+    assert_same(&rt, inner.length(BLOCKS)?, Some(HEADER_LEN as u64 + 700));
     assert!(rt; is_full_of(&mut inner, BLOCKS, HEADER_LEN as u64, 256, OLD)?);
     assert!(rt; is_full_of(&mut inner, BLOCKS, HEADER_LEN as u64 + 256, 444, 0)?);
     Ok(())
@@ -72,7 +72,7 @@ fn a_write_beside_the_map_erases_nothing(rt: HostRuntime) -> Result<(), Fail> {
     let mut f = Eraser::new(folder_with(rt.alloc(), BLOCKS, &bytes)?);
     f.write_at(BLOCKS, 16, &[1, 2, 3, 4])?;
     f.write_at(BLOCKS, HEADER_LEN as u64, &[OLD; 16])?;
-    Check::same(&rt, blank_blocks(&mut f.into_inner(), 256)?, Some(0));
+    assert_same(&rt, blank_blocks(&mut f.into_inner(), 256)?, Some(0));
     Ok(())
 }
 
@@ -81,11 +81,11 @@ fn a_header_is_written_into_a_file_of_zeros(rt: HostRuntime) -> Result<(), Fail>
     let bytes = block_file(rt.alloc(), 0, 0, 0)?;
     let header = block_file(rt.alloc(), 256, 0x0F, 0)?;
     let mut f = Eraser::new(folder_with(rt.alloc(), BLOCKS, &bytes)?);
-    Check::same(&rt, f.write_at(BLOCKS, 0, &header), Ok(()));
+    assert_same(&rt, f.write_at(BLOCKS, 0, &header), Ok(()));
     let mut inner = f.into_inner();
 
     // The length, the header and the write.
-    Check::same(&rt, inner.calls(), 3);
+    assert_same(&rt, inner.calls(), 3);
     assert!(rt; is_full_of(&mut inner, BLOCKS, MAP, 1, 0x0F)?);
     Ok(())
 }
@@ -96,11 +96,11 @@ fn external_files_are_zeros_before_they_go(rt: HostRuntime) -> Result<(), Fail> 
     bytes.resize(10_001, OLD)?;
     let mut f = Eraser::new(folder_with(rt.alloc(), EXTERNAL, &bytes)?);
     f.set_len(EXTERNAL, 5001)?;
-    Check::same(&rt, f.length(EXTERNAL)?, Some(5001));
+    assert_same(&rt, f.length(EXTERNAL)?, Some(5001));
     f.set_len(EXTERNAL, 6000)?;
     assert!(rt; is_full_of(&mut f, EXTERNAL, 4000, 1001, OLD)?);
     f.delete(EXTERNAL)?;
     let mut inner = f.into_inner();
-    Check::same(&rt, inner.length(EXTERNAL)?, None);
+    assert_same(&rt, inner.length(EXTERNAL)?, None);
     Ok(())
 }

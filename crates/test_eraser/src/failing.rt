@@ -1,6 +1,6 @@
 // A folder inside of which one call fails: the map keeps its marks, unless the call is the write of the map itself.
 use crate::files::{HEADER_LEN, MAP, OLD, block_file, folder_with, is_full_of};
-use crate::same::Check;
+use crate::same::{assert_same, assert_same_at};
 use blk_eraser::Eraser;
 use blk_io::{Failed, FileId, Folder};
 use std::test::Fail;
@@ -18,9 +18,9 @@ fn a_failure_before_the_map_leaves_the_marks(rt: HostRuntime) -> Result<(), Fail
         let mut folder = folder_with(rt.alloc(), BLOCKS, &bytes)?;
         folder.fail_at(call, 0)?;
         let mut f = Eraser::new(folder);
-        Check::same_at(&rt, f.write_at(BLOCKS, MAP, &[0]), Err(Failed), call);
+        assert_same_at(&rt, f.write_at(BLOCKS, MAP, &[0]), Err(Failed), call);
         let mut inner = f.into_inner();
-        Check::same(&rt, inner.calls(), call);
+        assert_same(&rt, inner.calls(), call);
         assert!(rt; is_full_of(&mut inner, BLOCKS, MAP, 1, 0x07)?, "{call}");
 
         // The blocks before the one whose write failed are zeros, and those from it on are as they were.
@@ -45,9 +45,9 @@ fn a_failure_before_a_deletion_leaves_the_file(rt: HostRuntime) -> Result<(), Fa
         let mut folder = folder_with(rt.alloc(), EXTERNAL, &bytes)?;
         folder.fail_at(call, 0)?;
         let mut f = Eraser::new(folder);
-        Check::same_at(&rt, f.delete(EXTERNAL), Err(Failed), call);
+        assert_same_at(&rt, f.delete(EXTERNAL), Err(Failed), call);
         let mut inner = f.into_inner();
-        Check::same(&rt, inner.length(EXTERNAL)?, Some(5000));
+        assert_same(&rt, inner.length(EXTERNAL)?, Some(5000));
         let first = if call > 2 { 0 } else { OLD };
         assert!(rt; is_full_of(&mut inner, EXTERNAL, 0, 4096, first)?, "{call}");
         let second = if call > 3 { 0 } else { OLD };
@@ -63,9 +63,9 @@ fn a_failure_before_a_deletion_leaves_the_file(rt: HostRuntime) -> Result<(), Fa
 fn a_write_that_cannot_be_judged_fails(rt: HostRuntime) -> Result<(), Fail> {
     // The header is not whole; the file hasn't the range; there is no file.
     let mut f = Eraser::new(folder_with(rt.alloc(), BLOCKS, &[0xFF; 100])?);
-    Check::same(&rt, f.write_at(BLOCKS, MAP, &[0]), Err(Failed));
-    Check::same(&rt, f.write_at(BLOCKS, 99, &[0, 0]), Err(Failed));
-    Check::same(&rt, f.write_at(EXTERNAL, 0, &[0]), Err(Failed));
+    assert_same(&rt, f.write_at(BLOCKS, MAP, &[0]), Err(Failed));
+    assert_same(&rt, f.write_at(BLOCKS, 99, &[0, 0]), Err(Failed));
+    assert_same(&rt, f.write_at(EXTERNAL, 0, &[0]), Err(Failed));
     let mut inner = f.into_inner();
     assert!(rt; is_full_of(&mut inner, BLOCKS, 0, 100, 0xFF)?);
     Ok(())

@@ -1,5 +1,5 @@
 // Sessions over a folder that erases, of which one call after the other fails, beside the same sessions over the folder alone.
-use crate::same::Check;
+use crate::same::assert_same;
 use blk_eraser::Eraser;
 use blk_io::{
     Failed, FileId, Folder, ListClock, MemFolder, MemSink, MemSource, NoMemory, SilentFolder,
@@ -288,24 +288,24 @@ fn stops_well(
 
 #[test]
 fn removals_that_erase_may_be_stopped(rt: HostRuntime) -> Result<(), Fail> {
-    Check::same(&rt, stops_well(rt.alloc(), FIVE, REMOVED, 51)?, [true; 3]);
+    assert_same(&rt, stops_well(rt.alloc(), FIVE, REMOVED, 51)?, [true; 3]);
     Ok(())
 }
 
 #[test]
 fn cuts_that_erase_may_be_stopped(rt: HostRuntime) -> Result<(), Fail> {
-    Check::same(&rt, stops_well(rt.alloc(), FIVE, CUT, 19_778)?, [true; 3]);
+    assert_same(&rt, stops_well(rt.alloc(), FIVE, CUT, 19_778)?, [true; 3]);
     Ok(())
 }
 
 #[test]
 fn growth_that_erases_may_be_stopped(rt: HostRuntime) -> Result<(), Fail> {
-    Check::same(&rt, stops_well(rt.alloc(), FIVE, GROWN, 40_678)?, [true; 3]);
+    assert_same(&rt, stops_well(rt.alloc(), FIVE, GROWN, 40_678)?, [true; 3]);
     Ok(())
 }
 
 #[test]
 fn changes_of_large_blocks_that_erase_may_be_stopped(rt: HostRuntime) -> Result<(), Fail> {
-    Check::same(&rt, stops_well(rt.alloc(), LARGE, CHANGED, 0)?, [true; 3]);
+    assert_same(&rt, stops_well(rt.alloc(), LARGE, CHANGED, 0)?, [true; 3]);
     Ok(())
 }

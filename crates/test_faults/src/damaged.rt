@@ -1,6 +1,6 @@
 // Folders that are corrupt or hostile: what a verification prints of each, and how a count ends on it.
 use crate::running::answers;
-use crate::same::Check;
+use crate::same::assert_same;
 use blk_index::make;
 use blk_inspect::{InspectFault, verify};
 use blk_io::{FileId, MemFolder, MemSink, SilentFolder, read_word};
@@ -207,7 +207,7 @@ fn an_opening_raises_the_index(rt: HostRuntime) -> Result<(), Fail> {
         let f = folder(rt.alloc(), &THREE, changes)?;
         let (counted, mut f) = is_counted(rt.alloc(), f, Status::Ok, "items 3 bytes 7\n")?;
         assert!(rt; counted);
-        Check::same(&rt, summed(&mut f)?, [0x3_0000, 0, 7, 0]);
+        assert_same(&rt, summed(&mut f)?, [0x3_0000, 0, 7, 0]);
     }
     Ok(())
 }
@@ -223,7 +223,7 @@ fn a_transaction_that_does_not_count_is_ended(rt: HostRuntime) -> Result<(), Fai
     )?;
     let none = (Status::Ok, b"items 0 bytes 0\n".as_slice());
     assert!(rt; answers(rt.alloc(), &mut f, &["count"], b"", none)?);
-    Check::same(&rt, read_word(&mut f, FileId::Index, TRANSACTION)?, 0);
+    assert_same(&rt, read_word(&mut f, FileId::Index, TRANSACTION)?, 0);
     Ok(())
 }
 

@@ -1,6 +1,6 @@
 // Sessions of twelve commands in which one call fails: of the folder, of the input, or of the output.
 use crate::running::{after, answers, left_by, run_over, run_with};
-use crate::same::Check;
+use crate::same::{assert_same, assert_same_at};
 use crate::twelve::{BEFORE, TWELVE, are_replies, is_closed, is_stop_outcome, replies_to_twelve};
 use blk_io::{ListClock, MemFolder, MemSink, MemSource};
 use blk_model::{Limits, MOST_ITEMS};
@@ -68,7 +68,7 @@ fn a_folder_call_that_fails_leaves_a_stop_outcome(rt: HostRuntime) -> Result<(),
     let start = left_by(rt.alloc(), BEFORE)?;
     let calls = calls_of_a_session(rt.alloc(), &start, &input)?;
     assert!(rt; calls >= 500, "{calls} calls");
-    Check::same(
+    assert_same(
         &rt,
         first_that_fails_ill(rt.alloc(), &start, &input, 10)?,
         None,
@@ -83,7 +83,7 @@ fn a_call_that_fails_in_a_new_folder_leaves_a_stop_outcome(rt: HostRuntime) -> R
     let start = MemFolder::new(rt.alloc());
     let calls = calls_of_a_session(rt.alloc(), &start, &input)?;
     assert!(rt; calls >= 550, "{calls} calls");
-    Check::same(
+    assert_same(
         &rt,
         first_that_fails_ill(rt.alloc(), &start, &input, 19)?,
         None,
@@ -126,7 +126,7 @@ fn a_take_that_fails_ends_the_session_with_its_closings(rt: HostRuntime) -> Resu
 
     // The last take finds the end of the input.
     let takes = (input.len() / TAKEN) as u64 + 2;
-    Check::same(&rt, takes, 7);
+    assert_same(&rt, takes, 7);
     for take in 1..=takes {
         assert!(rt;
             ends_without_input(rt.alloc(), &start, &input, take)?,
@@ -167,7 +167,7 @@ fn a_put_that_fails_ends_the_session_with_its_closings(rt: HostRuntime) -> Resul
         if status == Status::Ok {
             break;
         }
-        Check::same_at(&rt, status, Status::Sink, format_args!("put {put}"));
+        assert_same_at(&rt, status, Status::Sink, format_args!("put {put}"));
         assert!(rt; is_so, "put {put}");
         puts = put;
     }
@@ -184,7 +184,7 @@ fn an_entry_is_held_though_a_stream_fails(rt: HostRuntime) -> Result<(), Fail> {
     source.fail_at(2)?;
     let mut out = MemSink::new(rt.alloc());
     let status = run_with(rt.alloc(), &mut f, &["session"], &mut source, &mut out)?;
-    Check::same(
+    assert_same(
         &rt,
         (status, out.written()),
         (Status::Source, b"ok\n".as_slice()),
@@ -196,7 +196,7 @@ fn an_entry_is_held_though_a_stream_fails(rt: HostRuntime) -> Result<(), Fail> {
     let mut out = MemSink::new(rt.alloc());
     out.fail_at(1)?;
     let status = run_with(rt.alloc(), &mut f, &["session"], &mut source, &mut out)?;
-    Check::same(&rt, (status, out.written()), (Status::Sink, b"".as_slice()));
+    assert_same(&rt, (status, out.written()), (Status::Sink, b"".as_slice()));
     assert!(rt; answers(rt.alloc(), &mut f, &["list"], b"", listed)?);
     Ok(())
 }
@@ -223,7 +223,7 @@ fn a_line_that_the_budget_cuts_is_not_run(rt: HostRuntime) -> Result<(), Fail> {
         &mut f,
         &mut clock,
     );
-    Check::same(
+    assert_same(
         &rt,
         (status, out.written()),
         (Status::TooLong, b"".as_slice()),

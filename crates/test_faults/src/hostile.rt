@@ -1,7 +1,7 @@
 // Commands, runs and verifications over a folder whose words are computed from their place.
 use crate::computed::Computed;
 use crate::running::{after, left_by, run_over};
-use crate::same::Check;
+use crate::same::assert_same;
 use crate::twelve::BEFORE;
 use blk_cache::{Cache, StepFault};
 use blk_inspect::{InspectFault, verify};
@@ -207,7 +207,7 @@ fn a_computed_folder_is_verified(rt: HostRuntime) -> Result<(), Fail> {
         let mut out = MemSink::new(rt.alloc());
         match verify(rt.alloc(), &mut f, &mut out) {
             Ok(()) | Err(InspectFault::Device | InspectFault::Damaged(_)) => {}
-            Err(fault) => Check::same(&rt, Err(fault), Ok(())),
+            Err(fault) => assert_same(&rt, Err(fault), Ok(())),
         }
     }
     Ok(())

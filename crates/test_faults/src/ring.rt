@@ -1,5 +1,5 @@
 // An LRU list that becomes a loop while a cache is open: each walk over it ends at the word that would be followed.
-use crate::same::Check;
+use crate::same::assert_same;
 use blk_cache::{Cache, StepFault};
 use blk_io::{Damage, FileId, MemFolder, MemSink, SilentFolder};
 use blk_model::{Command, Limits};
@@ -65,7 +65,7 @@ fn rows_of_a_list_that_goes_round_end(rt: HostRuntime) -> Result<(), Fail> {
     let file = FileId::Block(0);
     let at = NEXT_OF_FRONT;
     let found = BEHIND;
-    Check::same(&rt, damage, Some(Damage { file, at, found }));
+    assert_same(&rt, damage, Some(Damage { file, at, found }));
     Ok(())
 }
 
@@ -76,6 +76,6 @@ fn a_search_in_a_list_that_goes_round_ends(rt: HostRuntime) -> Result<(), Fail> 
     let file = FileId::Block(0);
     let at = PREV_OF_BEHIND;
     let found = FRONT;
-    Check::same(&rt, damage, Some(Damage { file, at, found }));
+    assert_same(&rt, damage, Some(Damage { file, at, found }));
     Ok(())
 }

@@ -1,6 +1,6 @@
 // Runs that crash after each of their steps, and what the next session prints of what they left.
 use crate::running::{after, left_by, run_over, steps_of};
-use crate::same::Check;
+use crate::same::{assert_same, assert_same_at};
 use blk_io::{FileId, Folder, MemFolder, MemSink, read_word};
 use std::alloc::Global;
 use std::test::Fail;
@@ -60,7 +60,7 @@ fn an_open_turns_at_the_word_that_names_its_node(rt: HostRuntime) -> Result<(), 
         turned = turned || read_word(&mut f, FileId::Index, TRANSACTION)? == node;
         assert!(rt; steps > 0 || !turned);
         let out = shown(rt.alloc(), &mut f, LOOKS)?;
-        Check::same_at(
+        assert_same_at(
             &rt,
             out.written(),
             if turned { AS_USED } else { AS_MADE },
@@ -118,7 +118,7 @@ fn a_change_turns_at_the_dirty_word_and_a_close_at_the_clean_word(
             (true, false) => CHANGED,
         };
         let out = shown(rt.alloc(), &mut f, LOOK)?;
-        Check::same_at(&rt, out.written(), wanted, steps);
+        assert_same_at(&rt, out.written(), wanted, steps);
     }
     assert!(rt; marked);
     Ok(())
@@ -154,9 +154,9 @@ fn a_flush_turns_at_the_clean_word_and_a_write_after_it_at_the_dirty_word(
             _ => ABSENT,
         };
         let out = shown(rt.alloc(), &mut f, LOOK)?;
-        Check::same_at(&rt, out.written(), wanted, steps);
+        assert_same_at(&rt, out.written(), wanted, steps);
     }
-    Check::same(&rt, turns, 4);
+    assert_same(&rt, turns, 4);
     Ok(())
 }
 
@@ -186,7 +186,7 @@ fn a_sparse_object_is_evicted_whole_or_not_at_all(rt: HostRuntime) -> Result<(),
         let mut f = after(&whole, steps)?;
         let out = shown(rt.alloc(), &mut f, LOOK_AT_PARTS)?;
         is_gone = is_gone || out.written() == GONE;
-        Check::same_at(
+        assert_same_at(
             &rt,
             out.written(),
             if is_gone { GONE } else { WHOLE },

@@ -1,7 +1,7 @@
 // Blocks are allocated and freed, and maps are rebuilt, in a folder in memory.
 ghost use Rattle.std.specs.Prelude.{◌≤◌, ◌<◌};
 
-use crate::same::Check;
+use crate::same::{assert_same, assert_same_at};
 use blk_addr::{Addr, Claims, Kind};
 use blk_alloc::{allocate, free, rebuild};
 use blk_disk::BlockFiles;
@@ -156,12 +156,12 @@ fn blocks_lie_inside_a_group_and_are_freed(rt: HostRuntime) -> Result<(), Fail> 
     // Eight calls load the files; the fields, a hint and a word of the map are read, the hint is written, and the fields are
     // read again and five writes made for the marks.
     let words = [0xA301_0000, 0xA001_0004, 0xA201_0005];
-    Check::same(&rt, give_three(&mut f), Ok((words, 8 + 10)));
+    assert_same(&rt, give_three(&mut f), Ok((words, 8 + 10)));
     let given = [(16, 3), (20, 1024), (24, 0), (36, 254), (56, 0), (80, 0xFF)];
-    Check::same(&rt, has_blocks(&mut f, 270_336, &given), Ok(true));
-    Check::same(&rt, free_word(&mut f, 0xA001_0004), Ok(true));
+    assert_same(&rt, has_blocks(&mut f, 270_336, &given), Ok(true));
+    assert_same(&rt, free_word(&mut f, 0xA001_0004), Ok(true));
     let freed = [(16, 2), (24, 1), (36, 254), (56, 0), (80, 0xEF)];
-    Check::same(&rt, has_words(&mut f, 1, &freed), Ok(true));
+    assert_same(&rt, has_words(&mut f, 1, &freed), Ok(true));
     Ok(())
 }
 
@@ -169,9 +169,9 @@ fn blocks_lie_inside_a_group_and_are_freed(rt: HostRuntime) -> Result<(), Fail> 
 fn a_file_grows_where_none_has_room(rt: HostRuntime) -> Result<(), Fail> {
     let full = file_with(rt.alloc(), HEADER_LEN, 128, &header(1024, 256, [0; 4]))?;
     let mut f = folder_of(rt.alloc(), &full)?;
-    Check::same(&rt, give(&mut f, 2), Ok(0xA101_0400));
+    assert_same(&rt, give(&mut f, 2), Ok(0xA101_0400));
     let grown = [(16, 257), (20, 2048), (28, 1), (36, 255)];
-    Check::same(&rt, has_words(&mut f, 1, &grown), Ok(true));
+    assert_same(&rt, has_words(&mut f, 1, &grown), Ok(true));
     Ok(())
 }
 
@@ -192,11 +192,11 @@ fn counters_and_hints_lead_to_the_blocks(rt: HostRuntime) -> Result<(), Fail> {
     // The one lies in the group that has a longest free run of 1, and not in the first with space. Eight calls load the files, and
     // of ten more one reads a word of the map.
     let words = [0xA101_0000, 0xA201_0004, 0xA001_0007];
-    Check::same(&rt, give_two_three_one(&mut f), Ok((words, 2 * (8 + 10))));
+    assert_same(&rt, give_two_three_one(&mut f), Ok((words, 2 * (8 + 10))));
     let hints = [(40, 1), (44, 0), (48, 0), (52, 1)];
-    Check::same(&rt, has_words(&mut f, 1, &hints), Ok(true));
-    Check::same(&rt, free_word(&mut f, 0xA201_0004), Ok(true));
-    Check::same(&rt, has_words(&mut f, 1, &hints), Ok(true));
+    assert_same(&rt, has_words(&mut f, 1, &hints), Ok(true));
+    assert_same(&rt, free_word(&mut f, 0xA201_0004), Ok(true));
+    assert_same(&rt, has_words(&mut f, 1, &hints), Ok(true));
     Ok(())
 }
 
@@ -218,13 +218,13 @@ fn a_hint_may_have_any_value(rt: HostRuntime) -> Result<(), Fail> {
         // length, and six calls make the marks. The next call is the first after the allocation.
         let next = f.calls().wrapping_add(8 + 12);
         f.fail_at(next, 0)?;
-        Check::same_at(&rt, give(&mut f, 4), Ok(word), hint);
-        Check::same(
+        assert_same_at(&rt, give(&mut f, 4), Ok(word), hint);
+        assert_same(
             &rt,
             has_words(&mut f, 1, &[(52, group)]),
             Err(Fault::Device),
         );
-        Check::same(&rt, has_words(&mut f, 1, &[(52, group)]), Ok(true));
+        assert_same(&rt, has_words(&mut f, 1, &[(52, group)]), Ok(true));
     }
     Ok(())
 }
@@ -248,7 +248,7 @@ fn a_search_goes_round_once(rt: HostRuntime) -> Result<(), Fail> {
         put_word(&mut second, MAP, map);
         put_word(&mut second, 52, 3);
         let mut f = folder_of(rt.alloc(), &second)?;
-        Check::same(&rt, give(&mut f, 4), answer);
+        assert_same(&rt, give(&mut f, 4), answer);
     }
     Ok(())
 }
@@ -268,10 +268,10 @@ fn a_file_is_added_where_none_may_grow(rt: HostRuntime) -> Result<(), Fail> {
 
     // Eight calls load the files; the fields of the full one are read and no word of its map, four calls add a file and four
     // let it grow, a hint and a word of its map are read, the hint is written, and six calls make the marks.
-    Check::same(&rt, counted_give(&mut f), Ok((0xA004_0000, 8 + 18)));
-    Check::same(&rt, has_words(&mut f, 1, &[(8, 0x4_0001)]), Ok(true));
+    assert_same(&rt, counted_give(&mut f), Ok((0xA004_0000, 8 + 18)));
+    assert_same(&rt, has_words(&mut f, 1, &[(8, 0x4_0001)]), Ok(true));
     let added = [(16, 1), (20, 1024), (32, 1), (36, 255), (80, 1)];
-    Check::same(&rt, has_words(&mut f, 4, &added), Ok(true));
+    assert_same(&rt, has_words(&mut f, 4, &added), Ok(true));
     Ok(())
 }
 
@@ -285,9 +285,9 @@ fn a_counter_at_its_end_is_a_damage(rt: HostRuntime) -> Result<(), Fail> {
             at,
             found: 0,
         };
-        Check::same(&rt, free_word(&mut f, word), Err(Fault::Damaged(damage)));
+        assert_same(&rt, free_word(&mut f, word), Err(Fault::Damaged(damage)));
         let words = [(16, entries), (80, map)];
-        Check::same(&rt, has_words(&mut f, 1, &words), Ok(true));
+        assert_same(&rt, has_words(&mut f, 1, &words), Ok(true));
     }
     Ok(())
 }
@@ -350,14 +350,14 @@ fn a_wrong_map_is_made_that_of_the_claims(rt: HostRuntime) -> Result<(), Fail> {
 
     // Two reads of each file; of one its length, each word of its map, four counters, and updating twice.
     let first = rebuild_with(&mut f, &mut claims, &words);
-    Check::same(&rt, first, Ok(8 + 8 + 1 + 2028 + 4 + 2));
+    assert_same(&rt, first, Ok(8 + 8 + 1 + 2028 + 4 + 2));
     let expected = rebuilt_header(rt.alloc())?;
-    Check::same(&rt, begins_with(&mut f, 270_336, &expected), Ok(true));
+    assert_same(&rt, begins_with(&mut f, 270_336, &expected), Ok(true));
 
     // Nothing is written where all are right: two reads of each file. With a block more a word of the map differs, and three
     // counters; updating is written twice.
     for (words, calls) in [([].as_slice(), 8 + 8), (&[0xA001_0200], 8 + 8 + 4 + 2)] {
-        Check::same(&rt, rebuild_with(&mut f, &mut claims, words), Ok(calls));
+        assert_same(&rt, rebuild_with(&mut f, &mut claims, words), Ok(calls));
     }
     Ok(())
 }
@@ -396,13 +396,13 @@ fn a_map_that_is_too_short_is_a_damage_and_no_lack_of_room(rt: HostRuntime) -> R
             at,
             found,
         };
-        Check::same_at(
+        assert_same_at(
             &rt,
             give_cut(&mut f, length),
             Err(Fault::Damaged(damage)),
             length,
         );
-        Check::same(&rt, f.length(FileId::Block(1)), Ok(Some(length)));
+        assert_same(&rt, f.length(FileId::Block(1)), Ok(Some(length)));
     }
     Ok(())
 }
@@ -417,7 +417,7 @@ fn a_header_that_is_too_short_is_a_damage(rt: HostRuntime) -> Result<(), Fail> {
             at,
             found,
         };
-        Check::same_at(
+        assert_same_at(
             &rt,
             free_cut(&mut f, length, 0xA001_0004),
             Err(Fault::Damaged(damage)),

@@ -3,7 +3,7 @@ ghost use Rattle.std.specs.Prelude.{◌≡◌, IfOk};
 ghost use Rattle.std.specs.Option.{ForSome};
 ghost use Rattle.blk_disk.specs.Tables.{Agrees};
 
-use crate::same::Check;
+use crate::same::{assert_same, assert_same_at};
 use blk_addr::{Addr, Kind};
 use blk_disk::{BlockFiles, file_of, room_of};
 use blk_io::{Damage, Failed, Fault, FileId, Folder, MemFolder, NoMemory, SilentFolder, read_word};
@@ -106,9 +106,9 @@ fn files_are_found_in_the_order_of_the_links(rt: HostRuntime) -> Result<(), Fail
     let Ok(files) = BlockFiles::load(&mut f) else {
         panic!(rt; "the files are whole");
     };
-    Check::same(&rt, files.files(Kind::B1K), [2, 6, 4].as_slice());
-    Check::same(&rt, files.max_entries(2), Some(64896));
-    Check::same(&rt, files.max_entries(5), None);
+    assert_same(&rt, files.files(Kind::B1K), [2, 6, 4].as_slice());
+    assert_same(&rt, files.max_entries(2), Some(64896));
+    assert_same(&rt, files.max_entries(5), None);
     Ok(())
 }
 
@@ -130,7 +130,7 @@ fn each_check_of_a_header_names_its_word(rt: HostRuntime) -> Result<(), Fail> {
     for (at, word) in cases {
         let mut f = with_word(rt.alloc(), &FILES, HEADER_LEN, (6, at, word))?;
         let damage = Some((at, word));
-        Check::same_at(
+        assert_same_at(
             &rt,
             damage_of(&mut f, 6),
             damage,
@@ -162,7 +162,7 @@ fn each_file_is_whole_and_taken_up_once(rt: HostRuntime) -> Result<(), Fail> {
         (&TWICE, HEADER_LEN, 3, (8, 0x0006_0003)),
     ] {
         let mut f = folder_of(rt.alloc(), headers, size)?;
-        Check::same_at(&rt, damage_of(&mut f, file), Some(damage), file);
+        assert_same_at(&rt, damage_of(&mut f, file), Some(damage), file);
     }
     Ok(())
 }
@@ -184,7 +184,7 @@ fn the_sixtieth_file_of_a_kind_has_no_next_one(rt: HostRuntime) -> Result<(), Fa
     for (next, file, damage) in [(63, 62, (8, 0x003F_003E)), (0, 1, (8192, 0))] {
         let headers = sixty_files(rt.alloc(), next)?;
         let mut f = folder_of(rt.alloc(), &headers, HEADER_LEN)?;
-        Check::same_at(&rt, damage_of(&mut f, file), Some(damage), next);
+        assert_same_at(&rt, damage_of(&mut f, file), Some(damage), next);
     }
     Ok(())
 }
@@ -225,9 +225,9 @@ fn bytes_are_written_over_the_end_of_a_block(rt: HostRuntime) -> Result<(), Fail
         (0xA001_0004, 0, b"z".as_slice(), false),
     ] {
         let answer = write_and_read(&mut f, word, at, bytes, &mut out);
-        Check::same(&rt, answer, Ok(done));
+        assert_same(&rt, answer, Ok(done));
     }
-    Check::same(&rt, middle_of(&out), *b"\0\0abcd\0\0");
+    assert_same(&rt, middle_of(&out), *b"\0\0abcd\0\0");
     Ok(())
 }
 
@@ -252,8 +252,8 @@ fn fit_file<F: Folder>(f: &mut F, file: u8) -> Result<bool, Fault> {
 fn a_short_file_is_fitted_to_its_blocks(rt: HostRuntime) -> Result<(), Fail> {
     let headers = [FILES[0], (1, 0, 256, 1024), (2, 0, 1024, 0), FILES[3]];
     let mut f = folder_of(rt.alloc(), &headers, HEADER_LEN)?;
-    Check::same(&rt, fit_file(&mut f, 1), Ok(true));
-    Check::same(&rt, f.length(FileId::Block(1)), Ok(Some(270_336)));
+    assert_same(&rt, fit_file(&mut f, 1), Ok(true));
+    assert_same(&rt, f.length(FileId::Block(1)), Ok(Some(270_336)));
     Ok(())
 }
 
@@ -297,9 +297,9 @@ fn a_file_grows_by_1024_and_at_last_by_384_blocks(rt: HostRuntime) -> Result<(),
     let headers = [EMPTY[0], (1, 0, 256, 63488), EMPTY[2], EMPTY[3]];
     let mut f = with_word(rt.alloc(), &headers, HEADER_LEN, (1, 36, 0xFFFF_FFFF))?;
     for (groups, blocks) in [(255, 64512), (351, 64896)] {
-        Check::same(&rt, grown(&mut f), Ok([Some(groups), Some(blocks)]));
+        assert_same(&rt, grown(&mut f), Ok([Some(groups), Some(blocks)]));
     }
-    Check::same(&rt, f.length(FileId::Block(1)), Ok(Some(16_621_568)));
+    assert_same(&rt, f.length(FileId::Block(1)), Ok(Some(16_621_568)));
     Ok(())
 }
 
@@ -330,10 +330,10 @@ fn the_first_new_file_is_data_4(rt: HostRuntime) -> Result<(), Fail> {
     // There is a file of that number that isn't linked.
     let headers = [EMPTY[0], EMPTY[1], EMPTY[2], EMPTY[3], (4, 9, 4096, 77)];
     let mut f = folder_of(rt.alloc(), &headers, 9000)?;
-    Check::same(&rt, add_to(&mut f, Kind::B256), Ok(Some(4)));
+    assert_same(&rt, add_to(&mut f, Kind::B256), Ok(Some(4)));
     let words = [MAGIC, 0x20000, 4, 256, 0, 0x0004_0001];
-    Check::same(&rt, words_of_new(&mut f), words.map(|word| Some(word)));
-    Check::same(&rt, f.length(FileId::Block(4)), Ok(Some(8192)));
+    assert_same(&rt, words_of_new(&mut f), words.map(|word| Some(word)));
+    assert_same(&rt, f.length(FileId::Block(4)), Ok(Some(8192)));
     Ok(())
 }
 
@@ -356,15 +356,15 @@ fn too_few_bytes_are_a_damage(rt: HostRuntime) -> Result<(), Fail> {
     let mut f = SilentFolder::new(folder_of(alloc, &FILES, HEADER_LEN + 36)?);
     let at = HEADER_LEN as u64;
     let found = 35;
-    Check::same(
+    assert_same(
         &rt,
         read_cut(&mut f, at + 35),
         Err(Fault::Damaged(Damage { file, at, found })),
     );
 
     // Of a file that ends inside the fields of its header the length is the failed check.
-    Check::same(&rt, f.set_len(file, 79), Ok(()));
-    Check::same(
+    assert_same(&rt, f.set_len(file, 79), Ok(()));
+    assert_same(
         &rt,
         BlockFiles::load(&mut f).err(),
         Some(Fault::Damaged(Damage {

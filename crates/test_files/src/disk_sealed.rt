@@ -1,6 +1,6 @@
 // Records with checksums, in block files in memory.
 use crate::disk::{folder_of, word_of};
-use crate::same::Check;
+use crate::same::{assert_same, assert_same_at};
 use blk_disk::BlockFiles;
 use blk_io::{Damage, Fault, FileId, Folder, MemFolder, SilentFolder};
 use std::alloc::Global;
@@ -66,21 +66,21 @@ fn update_entry<F: Folder>(f: &mut F, word: u32, values: [u32; 3]) -> Result<boo
 #[test]
 fn an_updated_node_has_its_hash_as_seal(rt: HostRuntime) -> Result<(), Fail> {
     let mut f = zeros(rt.alloc())?;
-    Check::same(&rt, update_node(&mut f, LAST_NODE, OLD), Ok(true));
-    Check::same(&rt, update_node(&mut f, LAST_NODE, NEW), Ok(true));
-    Check::same(&rt, word_of(&mut f, 0, NODE_AT + 32), Some(NEW_NODE_SEAL));
+    assert_same(&rt, update_node(&mut f, LAST_NODE, OLD), Ok(true));
+    assert_same(&rt, update_node(&mut f, LAST_NODE, NEW), Ok(true));
+    assert_same(&rt, word_of(&mut f, 0, NODE_AT + 32), Some(NEW_NODE_SEAL));
 
     // Each update takes the eight calls that load the files, one read and four writes: the word at 28 and the checksum after it
     // go by one.
-    Check::same(&rt, f.calls(), 2 * (8 + 1 + 4) + 1);
+    assert_same(&rt, f.calls(), 2 * (8 + 1 + 4) + 1);
     Ok(())
 }
 
 #[test]
 fn an_updated_entry_record_has_its_hash_as_seal(rt: HostRuntime) -> Result<(), Fail> {
     let mut f = zeros(rt.alloc())?;
-    Check::same(&rt, update_entry(&mut f, LAST_BLOCK, NEW), Ok(true));
-    Check::same(&rt, word_of(&mut f, 1, BLOCK_AT + 92), Some(NEW_ENTRY_SEAL));
+    assert_same(&rt, update_entry(&mut f, LAST_BLOCK, NEW), Ok(true));
+    assert_same(&rt, word_of(&mut f, 1, BLOCK_AT + 92), Some(NEW_ENTRY_SEAL));
     Ok(())
 }
 
@@ -112,11 +112,11 @@ fn a_broken_record_is_not_updated(rt: HostRuntime) -> Result<(), Fail> {
     ];
     for (seal, length, answer) in cases {
         let mut f = SilentFolder::new(zeros(rt.alloc())?);
-        Check::same_at(&rt, update_broken(&mut f, seal, length), answer, length);
+        assert_same_at(&rt, update_broken(&mut f, seal, length), answer, length);
 
         // The two steps before it are the last ones.
-        Check::same(&rt, f.length(FileId::Block(0)), Ok(Some(length)));
-        Check::same_at(&rt, f.into_inner().steps(), Some(2), length);
+        assert_same(&rt, f.length(FileId::Block(0)), Ok(Some(length)));
+        assert_same_at(&rt, f.into_inner().steps(), Some(2), length);
     }
     Ok(())
 }
@@ -137,9 +137,9 @@ fn a_record_is_sealed_by_one_word(rt: HostRuntime) -> Result<(), Fail> {
 
     // The second time the checksum is there, so nothing is written.
     for _ in 0..2 {
-        Check::same(&rt, seal_last(&mut f), Ok(true));
-        Check::same(&rt, f.steps(), Some(1));
+        assert_same(&rt, seal_last(&mut f), Ok(true));
+        assert_same(&rt, f.steps(), Some(1));
     }
-    Check::same(&rt, word_of(&mut f, 0, NODE_AT + 32), Some(ZERO_NODE_SEAL));
+    assert_same(&rt, word_of(&mut f, 0, NODE_AT + 32), Some(ZERO_NODE_SEAL));
     Ok(())
 }

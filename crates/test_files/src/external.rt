@@ -6,7 +6,7 @@ ghost use Rattle.spec_format.specs.Address.{kind_of, external};
 ghost use Rattle.blk_external.specs.Numbers.{named_file};
 ghost use Rattle.blk_io.specs.FileNames.{file_of};
 
-use crate::same::Check;
+use crate::same::assert_same;
 use blk_addr::{Addr, Kind};
 use blk_external::{create, delete, read, resize, write};
 use blk_io::{Damage, Failed, Fault, FileId, Folder, MemFolder, SilentFolder, read_word};
@@ -96,7 +96,7 @@ fn a_file_gets_the_first_free_number_after_the_last(rt: HostRuntime) -> Result<(
     for i in 0..9 {
         let mut f = with_last(rt.alloc(), lasts[i], taken[i])?;
         let number = wanted[i];
-        Check::same(&rt, made(&mut f), Ok((0x8000_0000 + number, 0, number)));
+        assert_same(&rt, made(&mut f), Ok((0x8000_0000 + number, 0, number)));
     }
     Ok(())
 }
@@ -113,7 +113,7 @@ fn two_calls_find_a_next_number_that_is_free(rt: HostRuntime) -> Result<(), Fail
     let mut f = with_last(rt.alloc(), 8, &[3])?;
 
     // The test looks for the index, and the call reads, looks, makes and writes.
-    Check::same(&rt, calls_of_making(&mut f), Ok(1 + 4));
+    assert_same(&rt, calls_of_making(&mut f), Ok(1 + 4));
     Ok(())
 }
 
@@ -155,7 +155,7 @@ fn kept<F: Folder>(f: &mut F) -> Result<([u8; 3], [u8; 8], Option<u64>, Option<u
 fn a_file_holds_its_bytes(rt: HostRuntime) -> Result<(), Fail> {
     let mut f = with_last(rt.alloc(), 0, &[])?;
     let bytes = (*b"efg", *b"\0\0\0ab\0\0\0", None, Some(INDEX_LEN));
-    Check::same(&rt, kept(&mut f), Ok(bytes));
+    assert_same(&rt, kept(&mut f), Ok(bytes));
     Ok(())
 }
 
@@ -182,6 +182,6 @@ fn too_few_bytes_are_a_damage(rt: HostRuntime) -> Result<(), Fail> {
         at: 16,
         found: 2,
     });
-    Check::same(&rt, faults_of_cuts(&mut f), Ok([Some(past), Some(index)]));
+    assert_same(&rt, faults_of_cuts(&mut f), Ok([Some(past), Some(index)]));
     Ok(())
 }

@@ -1,5 +1,5 @@
 // Words of an index in memory are written, and read again.
-use crate::same::Check;
+use crate::same::{assert_same, assert_same_at};
 use blk_index::{Start, bucket, buckets, look, make, set_bucket, set_word, word};
 use blk_io::{Damage, Failed, Fault, FileId, Folder, MemFolder, SilentFolder};
 use std::test::Fail;
@@ -39,10 +39,10 @@ fn words_around<F: Folder>(f: &mut F) -> Result<Option<[u32; 7]>, Fault> {
 fn each_word_is_one_step_and_the_others_stay(rt: HostRuntime) -> Result<(), Fail> {
     let mut f = MemFolder::new(rt.alloc());
     f.set_len(FileId::Index, INDEX_LEN)?;
-    Check::same(&rt, write_three(&mut f), Ok(true));
-    Check::same(&rt, (f.calls(), f.steps()), (5, Some(4)));
+    assert_same(&rt, write_three(&mut f), Ok(true));
+    assert_same(&rt, (f.calls(), f.steps()), (5, Some(4)));
     let words = [0, 0x0102_0304, 0, 0x9000_0001, 0, 0, 0xA101_0002];
-    Check::same(&rt, words_around(&mut f), Ok(Some(words)));
+    assert_same(&rt, words_around(&mut f), Ok(Some(words)));
     Ok(())
 }
 
@@ -95,7 +95,7 @@ fn each_check_of_the_index_names_its_word(rt: HostRuntime) {
     for (at, word) in cases {
         let mut f = SilentFolder::new(MemFolder::new(rt.alloc()));
         let found = [Ok(Start::Finished), Err(damage(at, word))];
-        Check::same_at(&rt, look_with(&mut f, at, word), Ok(found), at);
+        assert_same_at(&rt, look_with(&mut f, at, word), Ok(found), at);
     }
 }
 
@@ -103,7 +103,7 @@ fn each_check_of_the_index_names_its_word(rt: HostRuntime) {
 fn an_index_of_the_first_version_is_finished(rt: HostRuntime) {
     let mut f = SilentFolder::new(MemFolder::new(rt.alloc()));
     let found = [Ok(Start::Finished), Ok(Start::Finished)];
-    Check::same(&rt, look_with(&mut f, 4, 0x2_0000), Ok(found));
+    assert_same(&rt, look_with(&mut f, 4, 0x2_0000), Ok(found));
 }
 
 // The faults of reading a bucket, three buckets and the whole index where its last byte is missing, and of reading a word
@@ -128,7 +128,7 @@ fn too_few_bytes_of_the_index_are_a_damage(rt: HostRuntime) {
         Some(damage(INDEX_LEN, (INDEX_LEN - 1) as u32)),
         Some(damage(12, 2)),
     ];
-    Check::same(&rt, faults_of_cuts(&mut f), Ok(faults));
+    assert_same(&rt, faults_of_cuts(&mut f), Ok(faults));
 }
 
 // The calls that read the last 1024 buckets, and the first and the last two of them.
@@ -144,8 +144,8 @@ fn last_piece(f: &mut MemFolder) -> Result<(u64, [u32; 3]), Fault> {
 fn the_last_piece_of_the_table_is_read_by_one_call(rt: HostRuntime) -> Result<(), Fail> {
     let mut f = MemFolder::new(rt.alloc());
     f.set_len(FileId::Index, INDEX_LEN)?;
-    Check::same(&rt, write_three(&mut f), Ok(true));
-    Check::same(&rt, last_piece(&mut f), Ok((1, [0, 0, 0xA101_0002])));
+    assert_same(&rt, write_three(&mut f), Ok(true));
+    assert_same(&rt, last_piece(&mut f), Ok((1, [0, 0, 0xA101_0002])));
     Ok(())
 }
 
@@ -198,5 +198,5 @@ impl Folder for ShortReads {
 #[test]
 fn a_short_header_of_a_whole_index_is_a_damage(rt: HostRuntime) {
     let mut f = ShortReads;
-    Check::same(&rt, look(&mut f), Err(damage(0, 100)));
+    assert_same(&rt, look(&mut f), Err(damage(0, 100)));
 }

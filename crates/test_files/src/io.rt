@@ -1,5 +1,5 @@
 // Examples on the objects in memory.
-use crate::same::Check;
+use crate::same::{assert_same, assert_same_at};
 use blk_io::{
     Clock, Failed, Fault, FileId, Folder, ListClock, MemFolder, MemSink, MemSource, NoMemory,
     SilentFolder, Sink, Source, StopFolder, read_word, write_run, write_words,
@@ -67,8 +67,8 @@ fn a_listed_write_lasts_in_part(rt: HostRuntime) -> Result<(), Fail> {
     for (words, bytes) in [(0, [0, 0, 0, 0, 0, 0, 0, 0]), (1, [0, 0, 1, 2, 0, 0, 0, 0])] {
         let mut f = eight_zeros(rt.alloc())?;
         let failed = (Err(Failed), [2, 0], Some(words));
-        Check::same(&rt, fail_write(&mut f, words), Ok(failed));
-        Check::same(&rt, holds_and_is_written(&mut f, &bytes), Ok([true, true]));
+        assert_same(&rt, fail_write(&mut f, words), Ok(failed));
+        assert_same(&rt, holds_and_is_written(&mut f, &bytes), Ok([true, true]));
     }
     Ok(())
 }
@@ -91,9 +91,9 @@ fn counted_two(f: &mut MemFolder) -> Result<(u64, Option<u64>), Failed> {
 fn neighbouring_words_are_written_by_one_call(rt: HostRuntime) -> Result<(), Fail> {
     let mut f = MemFolder::new(rt.alloc());
     f.add_file(FileId::Index, &[9; 16])?;
-    Check::same(&rt, counted_two(&mut f), Ok((2, Some(2))));
+    assert_same(&rt, counted_two(&mut f), Ok((2, Some(2))));
     let bytes = [9, 9, 9, 9, 1, 2, 3, 4, 5, 0, 0, 0, 9, 9, 9, 9];
-    Check::same(&rt, holds(&mut f, &bytes, None), Ok(true));
+    assert_same(&rt, holds(&mut f, &bytes, None), Ok(true));
     Ok(())
 }
 
@@ -151,16 +151,16 @@ fn at_most_eight_words_side_by_side_are_written_by_one_call(rt: HostRuntime) -> 
     let mut f = zeros_failing(rt.alloc(), u64::MAX, 0)?;
 
     // One call writes three words, two write ten, and one writes one.
-    Check::same(&rt, (write_fourteen(&mut f), f.calls()), (Ok(()), 4));
+    assert_same(&rt, (write_fourteen(&mut f), f.calls()), (Ok(()), 4));
     let mut f = f.into_inner();
-    Check::same(
+    assert_same(
         &rt,
         (f.steps(), has_front(&mut f, 14)),
         (Some(14), Ok(true)),
     );
     for count in 0..14 {
         let mut image = image_at(&f, count)?;
-        Check::same_at(&rt, has_front(&mut image, count), Ok(true), count);
+        assert_same_at(&rt, has_front(&mut image, count), Ok(true), count);
     }
     Ok(())
 }
@@ -170,10 +170,10 @@ fn words_side_by_side_last_in_part(rt: HostRuntime) -> Result<(), Fail> {
     // The second of the writes fails, of eight words: the fourth call inside, where each write looks at the length first.
     for words in [0, 1, 7, 8] {
         let mut f = zeros_failing(rt.alloc(), 4, words)?;
-        Check::same(&rt, (write_fourteen(&mut f), f.calls()), (Err(Failed), 2));
+        assert_same(&rt, (write_fourteen(&mut f), f.calls()), (Err(Failed), 2));
         let mut f = f.into_inner();
         let steps = words.wrapping_add(3);
-        Check::same(
+        assert_same(
             &rt,
             (f.steps(), has_front(&mut f, steps)),
             (Some(steps), Ok(true)),
@@ -209,17 +209,17 @@ fn a_stop_leaves_the_image_after_its_steps(rt: HostRuntime) -> Result<(), Fail> 
         (5, [0, 0, 1, 2, 3, 4, 5, 0], None),
     ];
     let mut f = eight_zeros(rt.alloc())?;
-    Check::same(&rt, (run(&mut f), f.steps()), (Ok(()), Some(5)));
+    assert_same(&rt, (run(&mut f), f.steps()), (Ok(()), Some(5)));
     for (steps, bytes, external) in after {
         let mut image = image_at(&f, steps)?;
-        Check::same(&rt, (image.steps(), image.calls()), (Some(0), 0));
+        assert_same(&rt, (image.steps(), image.calls()), (Some(0), 0));
         let held = holds(&mut image, &bytes, external);
-        Check::same_at(&rt, held, Ok(true), format_args!("the image at {steps}"));
+        assert_same_at(&rt, held, Ok(true), format_args!("the image at {steps}"));
         let (done, fails, mut inner) = stopped(rt.alloc(), steps)?;
-        Check::same(&rt, (done, fails), (steps == 5, [true; 2]));
-        Check::same(&rt, inner.steps(), Some(steps));
+        assert_same(&rt, (done, fails), (steps == 5, [true; 2]));
+        assert_same(&rt, inner.steps(), Some(steps));
         let held = holds(&mut inner, &bytes, external);
-        Check::same_at(&rt, held, Ok(true), format_args!("stopped at {steps}"));
+        assert_same_at(&rt, held, Ok(true), format_args!("stopped at {steps}"));
     }
     Ok(())
 }
@@ -237,7 +237,7 @@ fn files_are_listed_in_their_order(rt: HostRuntime) -> Result<(), Fail> {
     ] {
         f.add_file(file, b"x")?;
     }
-    Check::same(&rt, f.steps(), None);
+    assert_same(&rt, f.steps(), None);
     let mut last = None;
     for file in [
         FileId::Index,
@@ -247,9 +247,9 @@ fn files_are_listed_in_their_order(rt: HostRuntime) -> Result<(), Fail> {
         FileId::External(2),
     ] {
         last = f.list(last)?;
-        Check::same(&rt, last, Some(file));
+        assert_same(&rt, last, Some(file));
     }
-    Check::same(&rt, f.list(last), Ok(None));
+    assert_same(&rt, f.list(last), Ok(None));
     Ok(())
 }
 
@@ -264,8 +264,8 @@ fn sources_fail_where_they_are_listed(rt: HostRuntime) -> Result<(), Fail> {
         (Ok(1), *b"cb"),
         (Ok(0), *b"cb"),
     ] {
-        Check::same(&rt, source.take(&mut out), answer);
-        Check::same(&rt, out, bytes);
+        assert_same(&rt, source.take(&mut out), answer);
+        assert_same(&rt, out, bytes);
     }
     Ok(())
 }
@@ -275,10 +275,10 @@ fn sinks_fail_where_they_are_listed(rt: HostRuntime) -> Result<(), Fail> {
     let mut sink = MemSink::new(rt.alloc());
     sink.fail_at(2)?;
     for (bytes, answer) in [(b"one", Ok(())), (b"two", Err(Failed)), (b"six", Ok(()))] {
-        Check::same(&rt, sink.put(bytes), answer);
+        assert_same(&rt, sink.put(bytes), answer);
     }
-    Check::same(&rt, sink.written(), b"onesix");
-    Check::same(&rt, sink.lacks(), 0);
+    assert_same(&rt, sink.written(), b"onesix");
+    assert_same(&rt, sink.lacks(), 0);
     Ok(())
 }
 
@@ -287,7 +287,7 @@ fn a_clock_repeats_its_last_reading(rt: HostRuntime) -> Result<(), Fail> {
     let readings: [&[u64]; 2] = [&[3, 5], &[]];
     for (i, wanted) in [[3, 5, 5, 5], [0; 4]].iter().enumerate() {
         let mut clock = ListClock::new(rt.alloc(), readings[i])?;
-        Check::same(&rt, four_of(&mut clock), *wanted);
+        assert_same(&rt, four_of(&mut clock), *wanted);
     }
     Ok(())
 }
@@ -300,10 +300,10 @@ fn four_of(clock: &mut ListClock) -> [u64; 4] {
 #[test]
 fn a_silent_folder_passes_its_calls_on(rt: HostRuntime) -> Result<(), Fail> {
     let mut f = SilentFolder::new(eight_zeros(rt.alloc())?);
-    Check::same(&rt, (run(&mut f), f.calls()), (Ok(()), 5));
+    assert_same(&rt, (run(&mut f), f.calls()), (Ok(()), 5));
     let past = f.write_at(FileId::Index, 5, &[1, 2, 3, 4]);
-    Check::same(&rt, (past, f.calls()), (Err(Failed), 6));
+    assert_same(&rt, (past, f.calls()), (Err(Failed), 6));
     let held = holds(&mut f, &[0, 0, 1, 2, 3, 4, 5, 0], None);
-    Check::same(&rt, held, Ok(true));
+    assert_same(&rt, held, Ok(true));
     Ok(())
 }

@@ -1,6 +1,6 @@
 // The files of a real folder.
 use crate::folders::{HIGH, LOW, Machine, look, new_folder, read, write_four};
-use crate::same::Check;
+use crate::same::{assert_same, assert_same_at};
 use blk_io::{Failed, FileId, Folder};
 use std::io::ErrorKind;
 use std::os::unix::fs::{PermissionsExt, symlink};
@@ -50,7 +50,7 @@ fn cache_files_have_exact_names(rt: HostRuntime) -> io::Result<()> {
         Some(HIGH),
         None,
     ];
-    Check::same(&rt, listed(&mut look(rt, path.as_str())?), Ok(files));
+    assert_same(&rt, listed(&mut look(rt, path.as_str())?), Ok(files));
     fs::remove_dir_all(&rt, path.as_str())
 }
 
@@ -94,16 +94,16 @@ fn a_real_folder_keeps_its_files(rt: HostRuntime) -> io::Result<()> {
         Some(HIGH),
         None,
     ];
-    Check::same(&rt, listed(&mut folder), Ok(files));
-    Check::same(&rt, folder.length(FileId::Index), Ok(Some(4)));
+    assert_same(&rt, listed(&mut folder), Ok(files));
+    assert_same(&rt, folder.length(FileId::Index), Ok(Some(4)));
     let bytes = [
         (5, [0, 97, 98, 99, 0, 9, 9, 9]),
         (2, [118, 117, 9, 9, 9, 9, 9, 9]),
         (0, [9; 8]),
     ];
-    Check::same(&rt, bytes_of(&mut folder), Ok(bytes));
-    Check::same(&rt, without(&mut folder, LOW, block), Ok(Some(HIGH)));
-    Check::same(
+    assert_same(&rt, bytes_of(&mut folder), Ok(bytes));
+    assert_same(&rt, without(&mut folder, LOW, block), Ok(Some(HIGH)));
+    assert_same(
         &rt,
         lengths_given(&mut folder, block, [4096, 4096, 0]),
         [Ok(Some(4096)), Ok(Some(4096)), Ok(Some(0))],
@@ -129,12 +129,12 @@ fn a_failure_of_the_machine_is_answered(rt: HostRuntime) -> io::Result<()> {
     fs::remove_dir_all(&rt, path.as_str())?;
 
     // The one file is still open, and the other one is deleted.
-    Check::same(
+    assert_same(
         &rt,
         lengths(&mut folder),
         [Ok(Some(4)), Err(Failed), Err(Failed)],
     );
-    Check::same(&rt, folder.length(FileId::Index), Ok(None));
+    assert_same(&rt, folder.length(FileId::Index), Ok(None));
     assert!(rt; look(rt, path.as_str()).is_err());
     Ok(())
 }
@@ -148,9 +148,9 @@ fn a_file_that_came_later_is_not_taken(rt: HostRuntime) -> io::Result<()> {
     let later = format!(in alloc; "{text}/data_1")?;
     fs::write(&rt, later.as_str(), "kept")?;
     assert!(rt; folder.set_len(FileId::Block(1), 0).is_err());
-    Check::same(&rt, folder.length(FileId::Block(1)), Ok(None));
+    assert_same(&rt, folder.length(FileId::Block(1)), Ok(None));
     let kept = fs::read_to_string(&rt, later)?;
-    Check::same(&rt, kept.as_str(), "kept");
+    assert_same(&rt, kept.as_str(), "kept");
     fs::remove_dir_all(&rt, text)
 }
 
@@ -172,7 +172,7 @@ fn a_made_file_is_its_owners(rt: HostRuntime) -> io::Result<()> {
     drop(folder);
     assert!(rt; is_written);
     let names = ["index", "data_255", "f_000001", "f_fffffff"];
-    Check::same(&rt, modes(rt, &names)?, [0o600; 4]);
+    assert_same(&rt, modes(rt, &names)?, [0o600; 4]);
     fs::remove_dir_all(&rt, path)
 }
 
@@ -192,7 +192,7 @@ fn a_second_name_is_refused(rt: HostRuntime) -> io::Result<()> {
     let path = new_folder(rt, "names")?;
     let path = path.as_str();
     drop(look(rt, path)?);
-    Check::same(&rt, is_had(rt, path)?, [false, true, false]);
+    assert_same(&rt, is_had(rt, path)?, [false, true, false]);
     fs::remove_dir_all(&rt, path)
 }
 
@@ -240,14 +240,14 @@ fn a_file_put_in_place_is_not_opened(rt: HostRuntime) -> io::Result<()> {
         let path = new_folder(rt, "swapped")?;
         let path = path.as_str();
         let answered = swapped(rt, path, is_link)?;
-        Check::same_at(
+        assert_same_at(
             &rt,
             answered,
             (Err(Failed), [false, true]),
             format_args!("a link: {is_link}"),
         );
         let kept = fs::read_to_string(&rt, "elsewhere")?;
-        Check::same(&rt, kept.as_str(), "kept");
+        assert_same(&rt, kept.as_str(), "kept");
         fs::remove_dir_all(&rt, path)?;
     }
     Ok(())

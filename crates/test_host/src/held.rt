@@ -1,6 +1,6 @@
 // A folder that is acquired alone, or beside readers.
 use crate::folders::{look, new_folder, read, take, write_four};
-use crate::same::Check;
+use crate::same::assert_same;
 use blk_host::{Access, Held, NotHeld, RealFolder};
 use blk_io::{FileId, Folder};
 use std::fs;
@@ -53,7 +53,7 @@ fn a_shared_folder_is_read_alone(rt: HostRuntime) -> Result<(), NotHeld> {
     assert!(rt; write_four(&mut folder).is_ok());
     drop(folder);
     let mut folder = RealFolder::new(rt, rt.alloc(), take(rt, path, Access::Shared)?)?;
-    Check::same(
+    assert_same(
         &rt,
         read(&mut folder, FileId::Index, 1),
         Ok((3, [0, 97, 98, 9, 9, 9, 9, 9])),

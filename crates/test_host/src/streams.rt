@@ -1,7 +1,7 @@
 // The streams of the operating system, and its clock.
 ghost use Rattle.std.specs.Prelude.{◌≤◌, IfOk};
 
-use crate::same::Check;
+use crate::same::assert_same;
 use blk_host::{Patient, StdSink, StdSource, SystemClock};
 use blk_io::{Clock, Failed, Sink, Source};
 use std::io::{self, ErrorKind, Read, Write};
@@ -69,27 +69,27 @@ fn puts<K: Sink>(sink: &mut K) -> [Result<(), Failed>; 3] {
 #[test]
 fn a_stream_that_fails_once_is_answered_once(rt: HostRuntime) {
     let mut source = StdSource::new(Halting::new(ErrorKind::BrokenPipe));
-    Check::same(&rt, takes(&mut source), [Ok(2), Ok(2), Err(Failed), Ok(2)]);
+    assert_same(&rt, takes(&mut source), [Ok(2), Ok(2), Err(Failed), Ok(2)]);
     let mut sink = StdSink::new(Halting::new(ErrorKind::BrokenPipe));
-    Check::same(&rt, puts(&mut sink), [Ok(()), Err(Failed), Ok(())]);
+    assert_same(&rt, puts(&mut sink), [Ok(()), Err(Failed), Ok(())]);
 }
 
 #[test]
 fn a_stream_that_is_interrupted_goes_on(rt: HostRuntime) {
     let mut source = StdSource::new(Halting::new(ErrorKind::Interrupted));
-    Check::same(&rt, takes(&mut source), [Ok(2); 4]);
+    assert_same(&rt, takes(&mut source), [Ok(2); 4]);
     let mut sink = StdSink::new(Halting::new(ErrorKind::Interrupted));
-    Check::same(&rt, puts(&mut sink), [Ok(()); 3]);
+    assert_same(&rt, puts(&mut sink), [Ok(()); 3]);
 }
 
 #[test]
 fn a_stream_that_would_block_is_waited_for(rt: HostRuntime) {
     let mut source = StdSource::new(Patient::new(Halting::new(ErrorKind::WouldBlock), rt));
-    Check::same(&rt, takes(&mut source), [Ok(2); 4]);
+    assert_same(&rt, takes(&mut source), [Ok(2); 4]);
     let mut sink = StdSink::new(Patient::new(Halting::new(ErrorKind::WouldBlock), rt));
-    Check::same(&rt, puts(&mut sink), [Ok(()); 3]);
+    assert_same(&rt, puts(&mut sink), [Ok(()); 3]);
     let mut sink = StdSink::new(Patient::new(Halting::new(ErrorKind::BrokenPipe), rt));
-    Check::same(&rt, puts(&mut sink), [Ok(()), Err(Failed), Ok(())]);
+    assert_same(&rt, puts(&mut sink), [Ok(()), Err(Failed), Ok(())]);
 }
 
 #[test]

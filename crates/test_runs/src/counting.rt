@@ -1,5 +1,5 @@
 // The subcommand `count` on an empty folder, and where a call fails.
-use crate::same::Check;
+use crate::same::assert_same;
 use blk_io::{
     Failed, FileId, Folder, ListClock, MemFolder, MemSink, MemSource, SilentFolder, read_word,
 };
@@ -63,14 +63,14 @@ fn an_empty_folder_is_made_and_counted_by_few_calls(rt: HostRuntime) -> Result<(
         assert!(rt; calls <= most, "{calls} calls");
     }
     let header = Some(8192);
-    Check::same(
+    assert_same(
         &rt,
         lengths_of(&mut f)?,
         [Some(262512), header, header, header, header, None],
     );
     let start = f.calls();
     assert!(rt; answers(rt.alloc(), &mut f, "Count", Status::Words, b"usage\n")?);
-    Check::same(&rt, f.calls(), start);
+    assert_same(&rt, f.calls(), start);
     Ok(())
 }
 
@@ -115,7 +115,7 @@ fn a_failing_output_ends_the_session(rt: HostRuntime) -> Result<(), Fail> {
             status == Status::Sink && out.written().len() == printed,
             "{put}"
         );
-        Check::same(&rt, read_word(&mut f, FileId::Index, IndexHead::CRASH)?, 0);
+        assert_same(&rt, read_word(&mut f, FileId::Index, IndexHead::CRASH)?, 0);
     }
     Ok(())
 }

@@ -1,5 +1,5 @@
 // Sessions whose output holds back what it gets until it is flushed.
-use crate::same::Check;
+use crate::same::assert_same;
 use blk_io::{HoldingSink, ListClock, MemSource};
 use blk_run::{Status, session};
 use std::alloc::Global;
@@ -22,9 +22,9 @@ fn played(alloc: Global, script: &[u8], out: &mut HoldingSink) -> Result<Status,
 fn at_0_nothing_is_held(rt: HostRuntime) -> Result<(), Fail> {
     let mut out = HoldingSink::new(rt.alloc());
     let status = played(rt.alloc(), b"create 0 a\nclose 0\n", &mut out)?;
-    Check::same(&rt, status, Status::Ok);
-    Check::same(&rt, out.written(), b"ok\nok\n");
-    Check::same(&rt, (out.handed(), out.waits()), (6, false));
+    assert_same(&rt, status, Status::Ok);
+    assert_same(&rt, out.written(), b"ok\nok\n");
+    assert_same(&rt, (out.handed(), out.waits()), (6, false));
     Ok(())
 }
 
@@ -32,8 +32,8 @@ fn at_0_nothing_is_held(rt: HostRuntime) -> Result<(), Fail> {
 fn at_1_nothing_is_held(rt: HostRuntime) -> Result<(), Fail> {
     let mut out = HoldingSink::new(rt.alloc());
     let status = played(rt.alloc(), b"list\nopen 0 a\n", &mut out)?;
-    Check::same(&rt, status, Status::Refused);
-    Check::same(
+    assert_same(&rt, status, Status::Refused);
+    assert_same(
         &rt,
         (out.handed(), out.waits()),
         (out.written().len(), false),
@@ -46,9 +46,9 @@ fn a_flush_that_fails_gives_5(rt: HostRuntime) -> Result<(), Fail> {
     let mut out = HoldingSink::new(rt.alloc());
     out.fail_at(2)?;
     let status = played(rt.alloc(), b"list\nlist\nlist\n", &mut out)?;
-    Check::same(&rt, status, Status::Sink);
+    assert_same(&rt, status, Status::Sink);
     // The second reply is written and waits, and the third isn't made.
-    Check::same(&rt, out.written(), b"end 0\nend 0\n");
-    Check::same(&rt, (out.handed(), out.waits()), (6, true));
+    assert_same(&rt, out.written(), b"end 0\nend 0\n");
+    assert_same(&rt, (out.handed(), out.waits()), (6, true));
     Ok(())
 }

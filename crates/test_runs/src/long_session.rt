@@ -1,6 +1,6 @@
 // A session of four hundred entries by eight handles, whose last Close fails.
 use crate::counting::run_on;
-use crate::same::Check;
+use crate::same::assert_same;
 use blk_cache::StepFault;
 use blk_io::{MemSink, SilentFolder, StopFolder};
 use blk_model::{Answer, Command};
@@ -188,10 +188,10 @@ fn all_but_the_entry_whose_close_failed_are_held(rt: HostRuntime) -> Result<(), 
         items: 400,
         bytes: 44_040_400,
     };
-    Check::same(&rt, totals, all);
+    assert_same(&rt, totals, all);
     let mut session = failing_next(session)?;
     let handle = handle_of(ENTRIES - 1);
-    Check::same(
+    assert_same(
         &rt,
         session.step(&Command::Close { handle }).err(),
         Some(StepFault::Device),
@@ -204,17 +204,17 @@ fn all_but_the_entry_whose_close_failed_are_held(rt: HostRuntime) -> Result<(), 
         items: 399,
         bytes: 43_840_524,
     };
-    Check::same(&rt, totals, first);
+    assert_same(&rt, totals, first);
     assert!(rt; shows_first(rt.alloc(), &mut next, &bytes)?);
     let mut f = again(next.f, u64::MAX);
     let mut out = MemSink::new(rt.alloc());
-    Check::same(
+    assert_same(
         &rt,
         run_on(rt.alloc(), &mut f, "count", &mut out)?,
         Status::Ok,
     );
-    Check::same(&rt, out.written(), b"items 399 bytes 43840524\n");
-    Check::same(
+    assert_same(&rt, out.written(), b"items 399 bytes 43840524\n");
+    assert_same(
         &rt,
         held(rt.alloc(), f)?,
         (399, 43_840_524, hash_of_first(399, &bytes)),

@@ -1,5 +1,5 @@
 // A session whose input is longer than its input limit.
-use crate::same::Check;
+use crate::same::assert_same;
 use blk_io::{ListClock, MemSink, MemSource};
 use blk_run::{Status, session};
 use std::test::Fail;
@@ -21,9 +21,9 @@ fn a_session_ends_behind_its_budget(rt: HostRuntime) -> Result<(), Fail> {
         &mut f,
         &mut clock,
     );
-    Check::same(&rt, status, Status::TooLong);
-    Check::same(&rt, out.written(), b"end 0\n");
+    assert_same(&rt, status, Status::TooLong);
+    assert_same(&rt, out.written(), b"end 0\n");
     let (items, bytes, _) = held(rt.alloc(), f)?;
-    Check::same(&rt, (items, bytes), (0, 0));
+    assert_same(&rt, (items, bytes), (0, 0));
     Ok(())
 }

@@ -1,5 +1,5 @@
 // Writes at the borders of parts and blocks.
-use crate::same::Check;
+use crate::same::{assert_same, assert_same_at};
 use blk_cache::StepFault;
 use blk_io::MemSink;
 use blk_model::{Answer, Command, Refusal};
@@ -114,23 +114,23 @@ fn writes_at_borders_make_their_bytes_present(rt: HostRuntime) -> Result<(), Fai
         let mut session = with_object(rt.alloc())?;
         let answer = written(&mut session, offset, front(&bytes, length))?;
         if items == 0 {
-            Check::same(&rt, answer, Answer::Refused(Refusal::RangeEnd));
+            assert_same(&rt, answer, Answer::Refused(Refusal::RangeEnd));
             continue;
         }
-        Check::same_at(&rt, answer, Answer::Wrote(length), offset);
+        assert_same_at(&rt, answer, Answer::Wrote(length), offset);
         let (run, totals) = found_behind(&mut session, offset)?;
         let expected = Answer::Range {
             start,
             length: count,
         };
-        Check::same_at(&rt, run, expected, offset);
+        assert_same_at(&rt, run, expected, offset);
         let expected = Answer::Totals {
             items,
             bytes: total,
         };
-        Check::same_at(&rt, totals, expected, offset);
+        assert_same_at(&rt, totals, expected, offset);
         session.out = MemSink::new(rt.alloc());
-        Check::same_at(&rt, read_from(&mut session, start, count)?, count, offset);
+        assert_same_at(&rt, read_from(&mut session, start, count)?, count, offset);
     }
     Ok(())
 }

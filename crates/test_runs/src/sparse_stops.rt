@@ -1,5 +1,5 @@
 // Sessions on sparse data that crash, and openings of what they left that crash too.
-use crate::same::Check;
+use crate::same::{assert_same, assert_same_at};
 use blk_audit::ScanFault;
 use blk_cache::Cache;
 use blk_io::{MemFolder, MemSink, NoMemory, SilentFolder};
@@ -221,7 +221,7 @@ fn sessions_and_the_openings_behind_them_may_be_stopped(rt: HostRuntime) -> Resu
     for (count, (items, bytes)) in AT_REST.iter().enumerate() {
         let steps = steps_after(rt.alloc(), LIMITS, &COMMANDS, count)?;
         let rest = held_at(rt.alloc(), &f, steps)?;
-        Check::same_at(
+        assert_same_at(
             &rt,
             (rest.0, rest.1),
             (*items, *bytes),
@@ -242,12 +242,12 @@ fn a_closed_object_is_evicted_whole_or_not_at_all(rt: HostRuntime) -> Result<(),
     let f = done(rt.alloc(), THREE_ITEMS, &EVICTING)?;
     let first = steps_after(rt.alloc(), THREE_ITEMS, &EVICTING, 5)?;
     let before = held_at(rt.alloc(), &f, first)?;
-    Check::same(&rt, (before.0, before.1), (3, 11_665));
+    assert_same(&rt, (before.0, before.1), (3, 11_665));
     let mut is_out = false;
     for stop in first..=steps_of(&f) {
         let now = held_at(rt.alloc(), &f, stop)?;
         is_out = is_out || now == (0, 0, 0);
-        Check::same_at(&rt, now, if is_out { (0, 0, 0) } else { before }, stop);
+        assert_same_at(&rt, now, if is_out { (0, 0, 0) } else { before }, stop);
     }
     assert!(rt; is_out);
     Ok(())

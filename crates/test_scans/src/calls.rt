@@ -1,5 +1,5 @@
 // The folder calls of a consistency check of many entries, and of a repair.
-use crate::same::Check;
+use crate::same::assert_same;
 use blk_audit::ScanFault;
 use blk_disk::BlockFiles;
 use blk_io::FileId;
@@ -30,7 +30,7 @@ fn an_audit_of_4000_entries_takes_few_calls(rt: HostRuntime) -> Result<(), Fail>
         (Sort::Parents, 1 + 1 + 3),
     ] {
         let (items, calls) = counts(rt.alloc(), sort, ENTRIES)?;
-        Check::same(&rt, items, 4000);
+        assert_same(&rt, items, 4000);
         assert!(rt; calls <= 120 + 100 * each, "{calls} calls, {each}");
     }
     Ok(())
@@ -47,7 +47,7 @@ fn twice_the_entries_take_at_most_twice_the_calls(rt: HostRuntime) -> Result<(),
     ] {
         let (items, calls) = counts(rt.alloc(), sort, entries)?;
         let (twice, more) = counts(rt.alloc(), sort, entries.wrapping_mul(2))?;
-        Check::same(&rt, twice, items.wrapping_mul(2));
+        assert_same(&rt, twice, items.wrapping_mul(2));
         assert!(rt; more <= calls.wrapping_mul(2), "{calls} calls, then {more}");
     }
     Ok(())
@@ -83,8 +83,8 @@ fn keys_of_one_hash_are_compared_with_one_another(rt: HostRuntime) -> Result<(),
     // Each but the first is read, and those that were kept before it.
     let (others, calls) = counts(rt.alloc(), Sort::Plain, 8)?;
     let (alike, more) = counts_alike(rt.alloc())?;
-    Check::same(&rt, (others, alike), (8, 8));
-    Check::same(&rt, more, calls.wrapping_add(7 + 28));
+    assert_same(&rt, (others, alike), (8, 8));
+    assert_same(&rt, more, calls.wrapping_add(7 + 28));
     Ok(())
 }
 

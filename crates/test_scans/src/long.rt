@@ -1,5 +1,5 @@
 // The longest lists and chains, over several block files.
-use crate::same::Check;
+use crate::same::assert_same;
 use blk_index::make;
 use blk_io::{Failed, FileId, Folder, MemFolder, SilentFolder};
 use std::alloc::Global;
@@ -123,7 +123,7 @@ fn the_longest_list_and_a_long_chain_are_followed(rt: HostRuntime) -> Result<(),
     ] {
         let mut f = folder(rt.alloc(), nodes, records)?;
         let found = last_dropped(rt.alloc(), &mut f, dropped)?;
-        Check::same(&rt, found, (walked, [last, (0, 0)]));
+        assert_same(&rt, found, (walked, [last, (0, 0)]));
     }
     Ok(())
 }

@@ -1,5 +1,5 @@
 // Objects that are made and removed, in an opaque folder in memory.
-use crate::same::Check;
+use crate::same::assert_same;
 use blk_chain::find;
 use blk_disk::BlockFiles;
 use blk_entry::node_of;
@@ -98,16 +98,16 @@ fn counted(f: &mut Mem) -> Result<[u32; 4], Fault> {
 fn an_object_is_made(rt: HostRuntime) -> Result<(), Fail> {
     let mut f = folder(rt.alloc())?;
     let (places, calls) = made(&mut f, b"key")?;
-    Check::same(&rt, places, [0xA001_0000, 0x9000_0000]);
+    assert_same(&rt, places, [0xA001_0000, 0x9000_0000]);
     assert!(rt; calls <= 70, "{calls} calls");
-    Check::same(&rt, counted(&mut f), Ok([1, 3, 1, 0x9000_0000]));
+    assert_same(&rt, counted(&mut f), Ok([1, 3, 1, 0x9000_0000]));
 
     // Node, moment and length of the key in the record; moment, contents and dirty flag in the node.
     let [low, high] = MOMENT_WORDS;
     let record = words(&mut f, FileId::Block(1), [8200, 8216, 8220, 8224]);
-    Check::same(&rt, record, Ok([0x9000_0000, low, high, 3]));
+    assert_same(&rt, record, Ok([0x9000_0000, low, high, 3]));
     let node = words(&mut f, FileId::Block(0), [8192, 8196, 8216, 8220]);
-    Check::same(&rt, node, Ok([low, high, 0xA001_0000, MARK]));
+    assert_same(&rt, node, Ok([low, high, 0xA001_0000, MARK]));
     Ok(())
 }
 
@@ -117,14 +117,14 @@ fn long_keys_lie_in_blocks_and_files(rt: HostRuntime) -> Result<(), Fail> {
     let key = [b'k'; 20000];
     let (_, _) = made(&mut f, &key[..2000])?;
     let (places, _) = made(&mut f, &key)?;
-    Check::same(&rt, places, [0xA001_0001, 0x9000_0001]);
-    Check::same(&rt, counted(&mut f), Ok([2, 22000, 2, 0x9000_0001]));
+    assert_same(&rt, places, [0xA001_0001, 0x9000_0001]);
+    assert_same(&rt, counted(&mut f), Ok([2, 22000, 2, 0x9000_0001]));
     let long = words(&mut f, FileId::Block(1), [8228, 8484, 8200, 8456]);
     let wanted = [0xB102_0000, 0x8000_0001, 0x9000_0000, 0x9000_0001];
-    Check::same(&rt, long, Ok(wanted));
-    Check::same(&rt, f.length(FileId::External(1)), Ok(Some(20001)));
-    Check::same(&rt, removed(&mut f, &key), Ok(Some(39)));
-    Check::same(&rt, f.length(FileId::External(1)), Ok(None));
+    assert_same(&rt, long, Ok(wanted));
+    assert_same(&rt, f.length(FileId::External(1)), Ok(Some(20001)));
+    assert_same(&rt, removed(&mut f, &key), Ok(Some(39)));
+    assert_same(&rt, f.length(FileId::External(1)), Ok(None));
     Ok(())
 }
 
@@ -135,12 +135,12 @@ fn the_middle_of_three_keys_of_a_bucket_is_removed(rt: HostRuntime) -> Result<()
         let (_, _) = made(&mut f, key)?;
     }
     assert!(rt; removed(&mut f, KEYS[1])?.is_some());
-    Check::same(&rt, are_there(&mut f), Ok([true, false, true]));
-    Check::same(&rt, counted(&mut f), Ok([2, 6, 2, 0x9000_0002]));
+    assert_same(&rt, are_there(&mut f), Ok([true, false, true]));
+    assert_same(&rt, counted(&mut f), Ok([2, 6, 2, 0x9000_0002]));
 
     // The next one gets the places that are free.
     let (places, _) = made(&mut f, KEYS[1])?;
-    Check::same(&rt, places, [0xA001_0001, 0x9000_0001]);
-    Check::same(&rt, are_there(&mut f), Ok([true; 3]));
+    assert_same(&rt, places, [0xA001_0001, 0x9000_0001]);
+    assert_same(&rt, are_there(&mut f), Ok([true; 3]));
     Ok(())
 }

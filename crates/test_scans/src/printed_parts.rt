@@ -2,7 +2,7 @@
 use crate::printed_entries::{
     IEV, PARENT, STREAMS, all_entries, cut, holds, no_entries, shows, twins,
 };
-use crate::same::Check;
+use crate::same::assert_same_at;
 use blk_inspect::{InspectFault, Part};
 use blk_io::{MemFolder, SilentFolder};
 use std::test::Fail;
@@ -107,7 +107,7 @@ fn a_sink_that_fails_has_a_front(rt: HostRuntime) -> Result<(), Fail> {
         let mut f = twins(rt.alloc())?;
         let (answer, is_front) = cut(rt.alloc(), &mut f, call, text)?;
         assert!(rt; is_front, "call {call}");
-        Check::same_at(
+        assert_same_at(
             &rt,
             answer,
             Err(InspectFault::Sink),

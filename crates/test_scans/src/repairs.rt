@@ -1,6 +1,6 @@
 // The repair of the same folders, and a crash at each of its words.
 use crate::cases::{Case, TABLES};
-use crate::same::Check;
+use crate::same::assert_same;
 use blk_audit::ScanFault;
 use blk_disk::BlockFiles;
 use blk_index::make;
@@ -125,7 +125,7 @@ fn first_left(alloc: Global, tables: &[&[Case]]) -> Result<Option<(usize, usize)
 
 #[test]
 fn repair_mends_what_is_damaged(rt: HostRuntime) -> Result<(), Fail> {
-    Check::same(&rt, first_left(rt.alloc(), &TABLES)?, None);
+    assert_same(&rt, first_left(rt.alloc(), &TABLES)?, None);
     Ok(())
 }
 
@@ -164,7 +164,7 @@ fn an_index_of_the_first_version_is_raised_by_few_words(rt: HostRuntime) -> Resu
     for (changes, words) in PUT_BACK.iter().zip([3, 4, 5, 6]) {
         assert!(rt; is_raised(rt.alloc(), changes)?);
         let steps = steps_of(rt.alloc(), true, changes, MOST_STEPS)?;
-        Check::same(&rt, steps, Some(words));
+        assert_same(&rt, steps, Some(words));
     }
     Ok(())
 }
@@ -194,7 +194,7 @@ fn repair_deletes_what_nothing_names_and_ends_what_does_not_count(
     ];
     let mut f = changed(rt.alloc(), false, &others, u64::MAX)?;
     let mended = mended_words(rt.alloc(), &mut f)?;
-    Check::same(&rt, mended, (0, [None, None, Some(20000)]));
+    assert_same(&rt, mended, (0, [None, None, Some(20000)]));
     let mut f = empty(rt.alloc());
     make(&mut f, 7)?;
     change_all(
@@ -202,7 +202,7 @@ fn repair_deletes_what_nothing_names_and_ends_what_does_not_count(
         &[Index(TRANSACTION, 0x9000_0005), Index(OPERATION, 1)],
     )?;
     let mended = mended_words(rt.alloc(), &mut f)?;
-    Check::same(&rt, mended, (0, [None; 3]));
+    assert_same(&rt, mended, (0, [None; 3]));
     Ok(())
 }
 
@@ -227,7 +227,7 @@ fn repair_answers_a_damage_and_a_failure(rt: HostRuntime) -> Result<(), Fail> {
     let damage = Damage { file, at, found: 1 };
     let spoiled = answer_of(rt.alloc(), &[Word(IEV, SEAL, 1)], u64::MAX)?;
     let failed = answer_of(rt.alloc(), &[], 0)?;
-    Check::same(
+    assert_same(
         &rt,
         [spoiled, failed],
         [Some(Fault::Damaged(damage)), Some(Fault::Device)],

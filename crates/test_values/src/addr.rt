@@ -1,5 +1,5 @@
 // Words, sizes and used blocks from the description of the forms.
-use crate::same::Check;
+use crate::same::{assert_same, assert_same_at};
 use blk_addr::laws::from_word_of_word;
 use blk_addr::{Addr, Claims, FileId, Kind, blocks_for, entry_blocks, kind_for};
 
@@ -14,8 +14,8 @@ fn words_are_addresses(rt: HostRuntime) {
     ];
     for (word, kind, file, start, blocks) in words {
         let parts = (kind, file, start, blocks);
-        Check::same_at(&rt, parts_of(word), Some(parts), word);
-        Check::same_at(&rt, word_again(word), Some(word), word);
+        assert_same_at(&rt, parts_of(word), Some(parts), word);
+        assert_same_at(&rt, word_again(word), Some(word), word);
     }
 }
 
@@ -43,7 +43,7 @@ fn words_are_no_addresses(rt: HostRuntime) {
         0x8000_0000,
         0,
     ] {
-        Check::same_at(&rt, Addr::from_word(word), None, word);
+        assert_same_at(&rt, Addr::from_word(word), None, word);
     }
 }
 
@@ -57,8 +57,8 @@ fn addresses_are_put_together(rt: HostRuntime) {
         (Addr::of_external(1), 0x8000_0001),
         (Addr::of_external(0x0FFF_FFFF), 0x8FFF_FFFF),
     ] {
-        Check::same(&rt, addr.word(), word);
-        Check::same(&rt, Addr::from_word(word), Some(addr));
+        assert_same(&rt, addr.word(), word);
+        assert_same(&rt, Addr::from_word(word), Some(addr));
     }
 }
 
@@ -71,8 +71,8 @@ fn kinds_have_numbers_and_sizes(rt: HostRuntime) {
         (Kind::B1K, 3, Some(1024)),
         (Kind::B4K, 4, Some(4096)),
     ] {
-        Check::same(&rt, kind.number(), number);
-        Check::same(&rt, kind.block_size(), size);
+        assert_same(&rt, kind.number(), number);
+        assert_same(&rt, kind.block_size(), size);
     }
 }
 
@@ -90,7 +90,7 @@ fn keys_take_blocks(rt: HostRuntime) {
         (928, 1),
         (32768, 1),
     ] {
-        Check::same_at(
+        assert_same_at(
             &rt,
             entry_blocks(key_len),
             blocks,
@@ -111,7 +111,7 @@ fn sizes_take_blocks(rt: HostRuntime) {
         (16385, Some((Kind::External, 0))),
     ];
     for (size, storage) in sizes {
-        Check::same_at(&rt, storage_of(size), storage, format_args!("{size} bytes"));
+        assert_same_at(&rt, storage_of(size), storage, format_args!("{size} bytes"));
     }
 }
 
@@ -146,7 +146,7 @@ fn overlapping_claims_change_nothing(rt: HostRuntime) {
         (0xA201_0005, (false, 1, 0)),
         (0xA101_0006, (true, 2, 0)),
     ] {
-        Check::same_at(&rt, added(&mut claims, word), Some(answer), word);
+        assert_same_at(&rt, added(&mut claims, word), Some(answer), word);
     }
 }
 
@@ -164,7 +164,7 @@ fn claims_are_found(rt: HostRuntime) {
     // blocks 4 to 7 of data_3, the last block of data_255, f_000001
     for word in [0xC303_0004, 0xA0FF_FFFF, 0x8000_0001] {
         let found = Some([false, true, true, false]);
-        Check::same_at(&rt, twice(&mut claims, word), found, word);
+        assert_same_at(&rt, twice(&mut claims, word), found, word);
     }
     for (file, block, claimed) in [
         (3, 3, false),
@@ -175,7 +175,7 @@ fn claims_are_found(rt: HostRuntime) {
         (4, 7, false),
         (255, 65535, true),
     ] {
-        Check::same_at(
+        assert_same_at(
             &rt,
             claims.has_block(file, block),
             claimed,
@@ -190,7 +190,7 @@ fn claims_are_found(rt: HostRuntime) {
         (0xA0FF_0000, false),
         (0x8000_0002, false),
     ] {
-        Check::same_at(&rt, has(&claims, word), Some(claimed), word);
+        assert_same_at(&rt, has(&claims, word), Some(claimed), word);
     }
 }
 
@@ -221,8 +221,8 @@ fn addresses_are_added_all_or_none(rt: HostRuntime) {
         ([0xA001_000A, 0x8000_0003, 0xA001_0009], false, 3),
     ] {
         let added = add_three(&mut claims, words);
-        Check::same_at(&rt, added, Some(answer), words[0]);
-        Check::same(&rt, claims.allocations(1), allocations);
+        assert_same_at(&rt, added, Some(answer), words[0]);
+        assert_same(&rt, claims.allocations(1), allocations);
     }
     for (word, claimed) in [
         (0xA101_0008, true),
@@ -231,9 +231,9 @@ fn addresses_are_added_all_or_none(rt: HostRuntime) {
         (0x8000_0002, true),
         (0x8000_0003, false),
     ] {
-        Check::same_at(&rt, has(&claims, word), Some(claimed), word);
+        assert_same_at(&rt, has(&claims, word), Some(claimed), word);
     }
-    Check::same(&rt, claims.add_all(&[]).ok(), Some(true));
+    assert_same(&rt, claims.add_all(&[]).ok(), Some(true));
 }
 
 // Adds the block of a number of data_0 and of data_4, and says whether both are new.
@@ -256,11 +256,11 @@ fn add_all(claims: &mut Claims) -> Option<bool> {
 fn a_full_list_is_claimed(rt: HostRuntime) {
     let mut claims = Claims::new(rt.alloc());
     // 131072 nodes: each block that an address can name in data_0 and data_4
-    Check::same(&rt, add_all(&mut claims), Some(true));
-    Check::same(
+    assert_same(&rt, add_all(&mut claims), Some(true));
+    assert_same(
         &rt,
         [claims.allocations(0), claims.allocations(4)],
         [65536, 65536],
     );
-    Check::same(&rt, add(&mut claims, 0x9004_FFFF), Some(false));
+    assert_same(&rt, add(&mut claims, 0x9004_FFFF), Some(false));
 }

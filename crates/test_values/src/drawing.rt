@@ -1,5 +1,5 @@
 // What is drawn from a seed, and what is counted.
-use crate::same::Check;
+use crate::same::assert_same;
 use blk_gen::{Counts, Draws, Turn, fill};
 use blk_io::MemSink;
 use blk_model::{Answer, Refusal};
@@ -8,7 +8,7 @@ use blk_model::{Answer, Refusal};
 fn the_draws_of_the_seed_0(rt: HostRuntime) {
     let mut draws = Draws::new(0);
     for draw in [167_951_807, 218_396_424, 1_299_921_937] {
-        Check::same(&rt, draws.draw(), draw);
+        assert_same(&rt, draws.draw(), draw);
     }
 }
 
@@ -21,8 +21,8 @@ fn values_wrap_at_64_bits(rt: HostRuntime) {
         10_372_369_020_401_571_876,
     ] {
         let draw = draws.draw();
-        Check::same(&rt, draws.value, value);
-        Check::same(&rt, u64::from(draw), value >> 33);
+        assert_same(&rt, draws.value, value);
+        assert_same(&rt, u64::from(draw), value >> 33);
     }
 }
 
@@ -35,9 +35,9 @@ fn a_turn_draws_a_key_a_stream_and_a_length(rt: HostRuntime) {
         stream: 0,
         byte_count: 16945,
     };
-    Check::same(&rt, turn, first);
+    assert_same(&rt, turn, first);
     let mut buffer = [0; 4];
-    Check::same(&rt, turn.key(&mut buffer), b"k807");
+    assert_same(&rt, turn.key(&mut buffer), b"k807");
 }
 
 #[test]
@@ -49,7 +49,7 @@ fn keys_have_no_zeros_in_front(rt: HostRuntime) {
             byte_count: 0,
         };
         let mut buffer = [0; 4];
-        Check::same(&rt, turn.key(&mut buffer), key);
+        assert_same(&rt, turn.key(&mut buffer), key);
     }
 }
 
@@ -57,7 +57,7 @@ fn keys_have_no_zeros_in_front(rt: HostRuntime) {
 fn data_counts_up_from_the_number_of_the_turn(rt: HostRuntime) {
     let mut bytes = [0; 3];
     fill(510, &mut bytes);
-    Check::same(&rt, bytes, [254, 255, 0]);
+    assert_same(&rt, bytes, [254, 255, 0]);
 }
 
 #[test]
@@ -69,7 +69,7 @@ fn commands_are_counted_and_printed(rt: HostRuntime) {
     counts.count(&Answer::Bytes(16945), 0);
     counts.count(&Answer::Done, 0);
     let mut out = MemSink::new(rt.alloc());
-    Check::same(&rt, counts.print_counts(&mut out), Ok(()));
+    assert_same(&rt, counts.print_counts(&mut out), Ok(()));
     let line = b"commands 5 refused 1 evicted 2 read 16945\n";
-    Check::same(&rt, out.written(), line.as_slice());
+    assert_same(&rt, out.written(), line.as_slice());
 }

@@ -3,7 +3,7 @@
 ghost use Rattle.std.specs.Prelude.{◌≡◌, IsTrue};
 ghost use Rattle.std.specs.Option.{ForSome};
 
-use crate::same::Check;
+use crate::same::{assert_same, assert_same_at};
 use blk_addr::{Addr, Kind};
 use blk_handles::{Handles, NAMES, OpenObject, Released};
 use std::test::Fail;
@@ -94,10 +94,10 @@ fn release_last(handles: &mut Handles) -> Option<(bool, Released, bool, usize)> 
 fn an_object_closes_with_the_last_of_4096_names(rt: HostRuntime) -> Result<(), Fail> {
     let mut handles = Handles::new(rt.alloc())?;
     let shared = Some((1, Some(opened(7, 4096)), None));
-    Check::same(&rt, share(&mut handles), shared);
-    Check::same(&rt, release_more(&mut handles), Some(true));
+    assert_same(&rt, share(&mut handles), shared);
+    assert_same(&rt, release_more(&mut handles), Some(true));
     let last = Some((true, Released::Last(opened(7, 1)), false, 0));
-    Check::same(&rt, release_last(&mut handles), last);
+    assert_same(&rt, release_last(&mut handles), last);
     Ok(())
 }
 
@@ -132,8 +132,8 @@ fn as_many_objects_as_names_are_open_at_once(rt: HostRuntime) -> Result<(), Fail
     let mut handles = Handles::new(rt.alloc())?;
     // three times, so that the memory of closed objects is used again
     for start in [0, 30000, 10000] {
-        Check::same(&rt, open_all(&mut handles, start), Some(4096));
-        Check::same(&rt, close_all(&mut handles, start), Some(0));
+        assert_same(&rt, open_all(&mut handles, start), Some(4096));
+        assert_same(&rt, close_all(&mut handles, start), Some(0));
     }
     Ok(())
 }
@@ -187,11 +187,11 @@ fn successor() -> OpenObject {
 #[test]
 fn a_doomed_object_and_its_successor_are_open(rt: HostRuntime) -> Result<(), Fail> {
     let mut handles = Handles::new(rt.alloc())?;
-    Check::same(&rt, doom_and_succeed(&mut handles), Some([true, false]));
-    Check::same(&rt, handles.object(0), Some(doomed()));
-    Check::same(&rt, mark_by_another_name(&mut handles), Some(successor()));
+    assert_same(&rt, doom_and_succeed(&mut handles), Some([true, false]));
+    assert_same(&rt, handles.object(0), Some(doomed()));
+    assert_same(&rt, mark_by_another_name(&mut handles), Some(successor()));
     let released = (Released::More, Released::Last(doomed()), [false, true]);
-    Check::same(&rt, release_both(&mut handles), Some(released));
+    assert_same(&rt, release_both(&mut handles), Some(released));
     Ok(())
 }
 
@@ -206,7 +206,7 @@ fn the_least_name_is_told(rt: HostRuntime) -> Result<(), Fail> {
     let mut handles = Handles::new(rt.alloc())?;
     assert!(rt; handles.least_name().is_none());
     for name in [4095, 4000, 17, 1, 0] {
-        Check::same_at(&rt, least_with(&mut handles, name), Some(name), name);
+        assert_same_at(&rt, least_with(&mut handles, name), Some(name), name);
     }
     Ok(())
 }

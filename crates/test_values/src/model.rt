@@ -1,5 +1,5 @@
 // Limits from outside.
-use crate::same::Check;
+use crate::same::assert_same;
 use blk_model::limits;
 
 #[test]
@@ -18,7 +18,7 @@ fn limits_keep_their_numbers(rt: HostRuntime) {
         (1099511627776, 131072),
     ] {
         let numbers = numbers_of(max_bytes, max_items);
-        Check::same(&rt, numbers, Some((max_bytes, max_items)));
+        assert_same(&rt, numbers, Some((max_bytes, max_items)));
     }
 }
 

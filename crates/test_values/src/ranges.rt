@@ -5,7 +5,7 @@ ghost use Rattle.std.specs.Int.{cast_unsigned, w64};
 ghost use Rattle.blk_model.specs.Sizes.{longest_key, part_count, signatures};
 ghost use Rattle.blk_ranges.specs.PartMaps.{IsPartMap};
 
-use crate::same::Check;
+use crate::same::assert_same;
 use blk_ranges::{
     ChildName, ParentHead, ParentMap, PartMap, child_name, child_of, has_part_bit, place_of_part,
     read_child_name, with_part_bit,
@@ -126,35 +126,35 @@ fn run_from(map: &PartMap, place: u32) -> (u32, u32)
 fn sixty_writes_are_noted(rt: HostRuntime) {
     let mut map = PartMap::new(7, 1);
     note_all(&mut map, &WRITES);
-    Check::same(&rt, map.blocks, WORDS);
-    Check::same(&rt, (map.partial_block, map.partial_len), (526, 416));
+    assert_same(&rt, map.blocks, WORDS);
+    assert_same(&rt, (map.partial_block, map.partial_len), (526, 416));
     let mut end = 0;
     for (start, length) in RUNS {
-        Check::same(&rt, run_from(&map, end), (start, length));
+        assert_same(&rt, run_from(&map, end), (start, length));
         end = start.saturating_add(length);
     }
-    Check::same(&rt, run_from(&map, end), (end, 0));
+    assert_same(&rt, run_from(&map, end), (end, 0));
 }
 
 #[test]
 fn a_write_over_two_parts_is_noted_in_both(rt: HostRuntime) {
-    Check::same(&rt, child_of(1_048_076), (0, 1_048_076));
-    Check::same(&rt, child_of(1_048_576), (1, 0));
-    Check::same(&rt, child_of(68_719_476_736), (65536, 0));
+    assert_same(&rt, child_of(1_048_076), (0, 1_048_076));
+    assert_same(&rt, child_of(1_048_576), (1, 0));
+    assert_same(&rt, child_of(68_719_476_736), (65536, 0));
     let empty = PartMap::new(5, 1);
     let mut first = empty;
     first.note_write(1_048_076, 1_048_576);
-    Check::same(&rt, first, empty);
+    assert_same(&rt, first, empty);
     let mut second = empty;
     second.note_write(0, 1000);
-    Check::same(
+    assert_same(
         &rt,
         (second.blocks[0], second.partial_block, second.partial_len),
         (0, 0, 1000),
     );
-    Check::same(&rt, second.present_run(0, 1_048_576), (0, 1000));
+    assert_same(&rt, second.present_run(0, 1_048_576), (0, 1000));
     second.note_write(1000, 1024);
-    Check::same(
+    assert_same(
         &rt,
         (second.blocks[0], second.partial_block, second.partial_len),
         (1, -1, 0),
@@ -164,10 +164,10 @@ fn a_write_over_two_parts_is_noted_in_both(rt: HostRuntime) {
 #[test]
 fn a_run_goes_over_a_whole_part(rt: HostRuntime) {
     let mut map = PartMap::new(5, 1);
-    Check::same(&rt, map.present_run(3, 1_048_576), (3, 0));
+    assert_same(&rt, map.present_run(3, 1_048_576), (3, 0));
     map.note_write(0, 1_048_576);
-    Check::same(&rt, map.present_run(0, 1_048_576), (0, 1_048_576));
-    Check::same(&rt, map.present_run(1_048_576, 1_048_576), (1_048_576, 0));
+    assert_same(&rt, map.present_run(0, 1_048_576), (0, 1_048_576));
+    assert_same(&rt, map.present_run(1_048_576, 1_048_576), (1_048_576, 0));
 }
 
 // Whether a name is printed so, and read again.
@@ -218,13 +218,13 @@ fn the_longest_name_is_printed_and_read(rt: HostRuntime) -> Result<(), Fail> {
     key.resize(32768, b'k')?;
     let mut out = Vec::new(rt.alloc());
     out.resize(32796, 0)?;
-    Check::same(&rt, child_name(&key, i64::MAX, 65535, &mut out), 32796);
+    assert_same(&rt, child_name(&key, i64::MAX, 65535, &mut out), 32796);
     let name = ChildName {
         key_len: 32768,
         signature: i64::MAX,
         part: 65535,
     };
-    Check::same(&rt, read_child_name(&out), Some(name));
+    assert_same(&rt, read_child_name(&out), Some(name));
     Ok(())
 }
 
@@ -249,7 +249,7 @@ fn other_bytes_are_no_names(rt: HostRuntime) {
         b"Range_v".as_slice(),
         b"".as_slice(),
     ] {
-        Check::same(&rt, read_child_name(bytes), None);
+        assert_same(&rt, read_child_name(bytes), None);
     }
 }
 
@@ -259,21 +259,21 @@ fn maps_are_printed_and_read(rt: HostRuntime) {
     map.note_write(5 * 1024, 6 * 1024 + 77);
     let mut out = [0; 192];
     map.print(&mut out);
-    Check::same(
+    assert_same(
         &rt,
         [out[0], out[8], out[9], out[10], out[11]],
         [7, 0xC3, 0xCA, 0x03, 0xC1],
     );
-    Check::same(
+    assert_same(
         &rt,
         [out[12], out[16], out[20], out[64], out[65]],
         [1, 6, 77, 32, 0],
     );
-    Check::same(&rt, PartMap::read(&out), Some(map));
+    assert_same(&rt, PartMap::read(&out), Some(map));
     out[16] = 5;
-    Check::same(&rt, PartMap::read(&out), None);
+    assert_same(&rt, PartMap::read(&out), None);
     PartMap::new(7, 1).print(&mut out);
-    Check::same(
+    assert_same(
         &rt,
         [out[16], out[17], out[18], out[19], out[20]],
         [255, 255, 255, 255, 0],
@@ -288,10 +288,10 @@ fn a_parent_has_its_parts(rt: HostRuntime) -> Result<(), Fail> {
     };
     let mut front = [0; 64];
     head.print(&mut front);
-    Check::same(&rt, ParentHead::read(&front), Some(head));
+    assert_same(&rt, ParentHead::read(&front), Some(head));
     let mut bytes = Vec::from_slice(rt.alloc(), &front)?;
     bytes.resize(8256, 0)?;
-    Check::same(&rt, place_of_part(9), 65);
+    assert_same(&rt, place_of_part(9), 65);
     bytes[65] = with_part_bit(bytes[65], 9);
     assert!(rt; has_part_bit(bytes[65], 9) && !has_part_bit(bytes[65], 8));
     let read = ParentMap::read(&bytes);
@@ -301,13 +301,13 @@ fn a_parent_has_its_parts(rt: HostRuntime) -> Result<(), Fail> {
     };
     map.insert(65535);
     assert!(rt; map.has(9) && map.has(65535) && !map.has(8));
-    Check::same(
+    assert_same(
         &rt,
         (map.head, map.parts[1], map.parts[8191]),
         (head, 2, 128),
     );
     let mut out = [0; 8256];
     map.print(&mut out);
-    Check::same(&rt, ParentMap::read(&out), Some(map));
+    assert_same(&rt, ParentMap::read(&out), Some(map));
     Ok(())
 }

@@ -1,5 +1,5 @@
 // Headers that were made by hand.
-use crate::same::Check;
+use crate::same::assert_same;
 use blk_record::{BlockHead, IndexHead};
 use std::test::Fail;
 
@@ -58,7 +58,7 @@ fn an_index_header_is_read(rt: HostRuntime) -> Result<(), Fail> {
     let head = IndexHead::over(&bytes).ok_or("too short")?;
     let words = [0xC103CAC3, 0x30000, 2, 300, 7, 5, 0, 65536, 1, 0];
     let longs = [0x0102030405060708, 0x17FFFFFFE];
-    Check::same(&rt, front_of(&head), (words, longs));
+    assert_same(&rt, front_of(&head), (words, longs));
     Ok(())
 }
 
@@ -95,9 +95,9 @@ fn the_lists_of_an_index_are_read(rt: HostRuntime) -> Result<(), Fail> {
     let mut bytes = [0; 368];
     number_words(&mut bytes, 0);
     let head = IndexHead::over(&bytes).ok_or("too short")?;
-    Check::same(&rt, unused_of(&head), [56, 252, 256, 260, 264, 340, 364]);
+    assert_same(&rt, unused_of(&head), [56, 252, 256, 260, 264, 340, 364]);
     let lists = [268, 284, 288, 304, 308, 324, 328, 332, 336];
-    Check::same(&rt, lists_of(&head), lists);
+    assert_same(&rt, lists_of(&head), lists);
     Ok(())
 }
 
@@ -133,8 +133,8 @@ fn a_block_header_is_read(rt: HostRuntime) -> Result<(), Fail> {
     put(&mut bytes, &BLOCK_START);
     let head = BlockHead::over(&bytes).ok_or("too short")?;
     let front = ([0xC104CAC3, 0x20000, 256, 3, 1024], 1, 4);
-    Check::same(&rt, block_front_of(&head), front);
-    Check::same(&rt, block_rest_of(&head), [24, 36, 40, 52, 56, 60, 76]);
+    assert_same(&rt, block_front_of(&head), front);
+    assert_same(&rt, block_rest_of(&head), [24, 36, 40, 52, 56, 60, 76]);
     Ok(())
 }
 

@@ -6,7 +6,7 @@ ghost use Rattle.spec_format.specs.Records.{entry_size};
 ghost use Rattle.blk_record.specs.Fields.{IsField, OtherFieldsStay};
 
 use crate::record::number_words;
-use crate::same::Check;
+use crate::same::{assert_same, assert_same_at};
 use bitflags::Flags;
 use blk_record::{
     EntryFlags, EntryMut, EntryView, NodeMut, NodeView, Record, RecordMut, SparseHead,
@@ -32,10 +32,10 @@ const HIGH: [u32; 15] = [
 
 #[test]
 fn the_worked_hashes_hold(rt: HostRuntime) {
-    Check::same(&rt, super_fast_hash(b""), 0);
-    Check::same(&rt, super_fast_hash(b"a"), 0x115EA782);
-    Check::same(&rt, super_fast_hash(b"abcd"), 0xDAD8B8DB);
-    Check::same(&rt, super_fast_hash(&[0xFF]), 0);
+    assert_same(&rt, super_fast_hash(b""), 0);
+    assert_same(&rt, super_fast_hash(b"a"), 0x115EA782);
+    assert_same(&rt, super_fast_hash(b"abcd"), 0xDAD8B8DB);
+    assert_same(&rt, super_fast_hash(&[0xFF]), 0);
 }
 
 #[test]
@@ -45,7 +45,7 @@ fn hashes_are_those_of_the_published_function(rt: HostRuntime) {
         for (j, byte) in key.iter_mut().enumerate() {
             *byte = ((37 * n + 89 * j + 11) % 256) as u8;
         }
-        Check::same_at(
+        assert_same_at(
             &rt,
             super_fast_hash(&key[..n]),
             *hash,
@@ -61,7 +61,7 @@ fn high_tail_bytes_count_as_negative(rt: HostRuntime) {
         for (j, byte) in key.iter_mut().enumerate() {
             *byte = (255 - j * ((i + 1) % 5)) as u8;
         }
-        Check::same_at(
+        assert_same_at(
             &rt,
             super_fast_hash(&key[..i + 1]),
             *hash,
@@ -85,19 +85,19 @@ fn an_entry_record_is_sealed_and_read(rt: HostRuntime) -> Result<(), Fail> {
     link(&mut bytes, 0xA0010002);
     let mut entry = EntryMut::over(&mut bytes).ok_or("too short")?;
     entry.seal();
-    Check::same(&rt, (entry.checks(), entry.word(92)), (true, 0x4D444C85));
+    assert_same(&rt, (entry.checks(), entry.word(92)), (true, 0x4D444C85));
     entry.set_word(8, 0x90000001);
     assert!(rt; !entry.checks());
     entry.unseal();
     assert!(rt; entry.checks());
     let view = EntryView::over(&bytes).ok_or("too short")?;
-    Check::same(
+    assert_same(
         &rt,
         [view.word(0), view.word(4), view.word(8), view.word(92)],
         [0, 0xA0010002, 0x90000001, 0],
     );
     assert!(rt; view.checks());
-    Check::same(&rt, view.bytes().len(), EntryView::SIZE);
+    assert_same(&rt, view.bytes().len(), EntryView::SIZE);
     Ok(())
 }
 
@@ -109,7 +109,7 @@ fn a_node_is_sealed_and_read(rt: HostRuntime) -> Result<(), Fail> {
     node.seal();
     assert!(rt; node.checks());
     let view = NodeView::over(&bytes).ok_or("too short")?;
-    Check::same(
+    assert_same(
         &rt,
         (view.word(24), view.word(NodeView::SEAL)),
         (0xA0010003, 0xE3B2DD76),
@@ -136,20 +136,20 @@ fn a_field_is_lent(rt: HostRuntime) -> Result<(), Fail> {
     let mut bytes = [0x55; 97];
     let mut entry = EntryMut::over(&mut bytes).ok_or("too short")?;
     fill(&mut entry, 8, &[1, 2, 3, 0x90]);
-    Check::same(
+    assert_same(
         &rt,
         [entry.word(4), entry.word(8), entry.word(12)],
         [0x55555555, 0x90030201, 0x55555555],
     );
     let field = entry.field_mut(92);
-    Check::same(&rt, (field.len(), field[3]), (4, 0x55));
+    assert_same(&rt, (field.len(), field[3]), (4, 0x55));
     field[3] = 0xFF;
-    Check::same(
+    assert_same(
         &rt,
         (entry.word(88), entry.word(92)),
         (0x55555555, 0xFF555555),
     );
-    Check::same(&rt, (bytes[8], bytes[95], bytes[96]), (1, 0xFF, 0x55));
+    assert_same(&rt, (bytes[8], bytes[95], bytes[96]), (1, 0xFF, 0x55));
     Ok(())
 }
 
@@ -159,7 +159,7 @@ fn a_field_of_a_node_is_lent(rt: HostRuntime) -> Result<(), Fail> {
     let mut node = NodeMut::over(&mut bytes).ok_or("too short")?;
     fill(&mut node, 32, &[4, 3, 2, 1]);
     node.field_mut(0)[0] = 9;
-    Check::same(
+    assert_same(
         &rt,
         [node.word(0), node.word(4), node.word(28), node.word(32)],
         [9, 0, 0, 0x01020304],
@@ -186,9 +186,9 @@ fn a_sparse_head_is_read(rt: HostRuntime) -> Result<(), Fail> {
     number_words(&mut bytes, 0x100);
     let head = SparseHead::over(&bytes).ok_or("too short")?;
     let words = [0x108, 0x10C, 0x114, 0x118, 0x13C];
-    Check::same(&rt, parts_of(&head), (0x0000_0104_0000_0100, 0x110, words));
+    assert_same(&rt, parts_of(&head), (0x0000_0104_0000_0100, 0x110, words));
     let head = SparseHead::over(&[0xFF; 64]).ok_or("too short")?;
-    Check::same(&rt, head.last_block(), -1);
+    assert_same(&rt, head.last_block(), -1);
     Ok(())
 }
 
@@ -203,7 +203,7 @@ fn a_window_shorter_than_its_record_is_refused(rt: HostRuntime) {
 
 #[test]
 fn flags_have_names(rt: HostRuntime) {
-    Check::same(
+    assert_same(
         &rt,
         (EntryFlags::PARENT.bits(), EntryFlags::CHILD.bits()),
         (1, 2),

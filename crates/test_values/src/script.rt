@@ -1,4 +1,4 @@
-use crate::same::Check;
+use crate::same::{assert_same, assert_same_at};
 use blk_io::{Failed, MemSink, Sink};
 use blk_model::{Answer, Command, Refusal};
 use blk_script::{
@@ -13,7 +13,7 @@ use std::test::Fail;
 fn says(rt: &impl Abort, line: &str, want: Result<Command, LineFault>) {
     let mut buffer = [0; 64];
     assert!(rt; line.len() <= buffer.len());
-    Check::same_at(rt, read_line(line.as_bytes(), &mut buffer), want, line);
+    assert_same_at(rt, read_line(line.as_bytes(), &mut buffer), want, line);
 }
 
 #[test]
@@ -194,10 +194,10 @@ fn lines_are_bounded(rt: HostRuntime) -> Result<(), Fail> {
     let mut line = Vec::from_slice(rt.alloc(), b"doomkey ")?;
     line.resize(2200000, b'a')?;
     let mut buffer = vec![in rt.alloc(); 0; 2200001]?;
-    Check::same(&rt, length_of(&line, &mut buffer), Some(Ok(2199992)));
+    assert_same(&rt, length_of(&line, &mut buffer), Some(Ok(2199992)));
     line.push(b'a')?;
     let fault = Some(Err(LineFault::TooLong));
-    Check::same(&rt, length_of(&line, &mut buffer), fault);
+    assert_same(&rt, length_of(&line, &mut buffer), fault);
     Ok(())
 }
 
@@ -206,30 +206,30 @@ fn data_is_bounded(rt: HostRuntime) -> Result<(), Fail> {
     let mut line = Vec::from_slice(rt.alloc(), b"swrite 0 0 ")?;
     line.resize(2097163, b'6')?;
     let mut buffer = vec![in rt.alloc(); 0; 2200000]?;
-    Check::same(&rt, length_of(&line, &mut buffer), Some(Ok(1048576)));
+    assert_same(&rt, length_of(&line, &mut buffer), Some(Ok(1048576)));
 
     // The digits are not looked at, but the fields in front are.
     line.push(b'x')?;
     let fault = Some(Err(LineFault::TooLong));
-    Check::same(&rt, length_of(&line, &mut buffer), fault);
+    assert_same(&rt, length_of(&line, &mut buffer), fault);
     if let Some(byte) = line.get_mut(7) {
         *byte = b'x';
     }
     let fault = Some(Err(LineFault::Number));
-    Check::same(&rt, length_of(&line, &mut buffer), fault);
+    assert_same(&rt, length_of(&line, &mut buffer), fault);
     Ok(())
 }
 
 // Prints a command, compares the line, and reads it again.
 fn prints(rt: &impl Abort, alloc: Global, command: Command, want: &str) {
     let mut out = MemSink::new(alloc);
-    Check::same(rt, print_line(&mut out, &command), Ok(()));
+    assert_same(rt, print_line(&mut out, &command), Ok(()));
     let text = out.written();
-    Check::same(rt, text, want.as_bytes());
+    assert_same(rt, text, want.as_bytes());
     let mut buffer = [0; 64];
     if let Some((_, line)) = text.split_last() {
         assert!(rt; line.len() <= buffer.len());
-        Check::same_at(rt, read_line(line, &mut buffer), Ok(command), want);
+        assert_same_at(rt, read_line(line, &mut buffer), Ok(command), want);
     }
 }
 
@@ -330,8 +330,8 @@ fn replies(rt: &impl Abort, alloc: Global, answer: Answer, want: &str) {
     if let Answer::Bytes(_) = answer {
         return;
     }
-    Check::same(rt, print_reply(&mut out, &answer), Ok(()));
-    Check::same(rt, out.written(), want.as_bytes());
+    assert_same(rt, print_reply(&mut out, &answer), Ok(()));
+    assert_same(rt, out.written(), want.as_bytes());
 }
 
 #[test]
@@ -393,8 +393,8 @@ fn faults_are_printed(rt: HostRuntime) -> Result<(), Fail> {
             Field::Number(fault.number().into()),
             Field::Word(fault.name()),
         ];
-        Check::same(&rt, print_fields(&mut out, &fields), Ok(()));
-        Check::same(&rt, out.written(), want.as_bytes());
+        assert_same(&rt, print_fields(&mut out, &fields), Ok(()));
+        assert_same(&rt, out.written(), want.as_bytes());
     }
     Ok(())
 }
@@ -410,12 +410,12 @@ fn print_parts<K: Sink>(out: &mut K, bytes: &[u8]) -> Result<(), Failed> {
 #[test]
 fn parts_are_printed(rt: HostRuntime) -> Result<(), Fail> {
     let mut out = MemSink::new(rt.alloc());
-    Check::same(&rt, print_parts(&mut out, &[0xA5; 300]), Ok(()));
+    assert_same(&rt, print_parts(&mut out, &[0xA5; 300]), Ok(()));
     let mut want = Vec::from_slice(rt.alloc(), b"18446744073709551615k%20%25")?;
     for _ in 0..300 {
         want.extend_from_slice(b"a5")?;
     }
-    Check::same(&rt, out.written(), want.as_slice());
+    assert_same(&rt, out.written(), want.as_slice());
     Ok(())
 }
 
@@ -428,8 +428,8 @@ fn a_sink_fails_in_the_middle(rt: HostRuntime) -> Result<(), Fail> {
         (Err(Failed), b"doom ".as_slice()),
         (Ok(()), b"doom doom 12\n".as_slice()),
     ] {
-        Check::same(&rt, print_line(&mut out, &command), answer);
-        Check::same(&rt, out.written(), text);
+        assert_same(&rt, print_line(&mut out, &command), answer);
+        assert_same(&rt, out.written(), text);
     }
     Ok(())
 }

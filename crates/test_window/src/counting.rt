@@ -1,5 +1,5 @@
 // The calls of a long session on the folder, with a window over it and without.
-use crate::same::Check;
+use crate::same::assert_same;
 use crate::traced::{newly_traced, window_over};
 use blk_io::{Folder, ListClock, MemFolder, MemSink, MemSource, NoMemory};
 use blk_model::{Limits, MOST_ITEMS};
@@ -59,14 +59,14 @@ fn a_long_session_reads_its_folder_a_tenth_as_often(rt: HostRuntime) -> Result<(
     let lines = lines(rt.alloc())?;
     let mut alone = newly_traced(MemFolder::without_trail(rt.alloc()));
     let (status, printed) = play(rt.alloc(), &mut alone, &lines)?;
-    Check::same(&rt, status, Status::Ok);
+    assert_same(&rt, status, Status::Ok);
     let behind = newly_traced(MemFolder::without_trail(rt.alloc()));
     let mut window = window_over(rt.alloc(), behind, PAGES)?;
     let (status, printed_then) = play(rt.alloc(), &mut window, &lines)?;
-    Check::same(&rt, status, Status::Ok);
-    Check::same(&rt, printed.written(), printed_then.written());
+    assert_same(&rt, status, Status::Ok);
+    assert_same(&rt, printed.written(), printed_then.written());
     let behind = window.into_inner();
-    Check::same(&rt, behind.trail, alone.trail);
+    assert_same(&rt, behind.trail, alone.trail);
     let [reads, reads_alone] = [behind.reads, alone.reads];
     assert!(rt;
         reads <= reads_alone / 10,
@@ -75,6 +75,6 @@ fn a_long_session_reads_its_folder_a_tenth_as_often(rt: HostRuntime) -> Result<(
 
     // All other calls are passed on.
     let others = behind.inner.calls().wrapping_sub(reads);
-    Check::same(&rt, others, alone.inner.calls().wrapping_sub(reads_alone));
+    assert_same(&rt, others, alone.inner.calls().wrapping_sub(reads_alone));
     Ok(())
 }

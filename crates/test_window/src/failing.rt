@@ -1,5 +1,5 @@
 // Reads over a window of two pages, of which one fails.
-use crate::same::Check;
+use crate::same::{assert_same, assert_same_at};
 use crate::traced::window_over;
 use blk_io::{Failed, FileId, Folder, MemFolder, NoMemory};
 use blk_window::Window;
@@ -49,7 +49,7 @@ fn a_failed_read_drops_the_page_that_was_to_give_way(rt: HostRuntime) -> Result<
     out.resize(LENGTH, 0)?;
     for (at, count, answer, pages) in READS {
         let given = window.read_at(FileId::Index, at, &mut out[..count.min(LENGTH)]);
-        Check::same_at(&rt, given, answer, format_args!("at {at}"));
+        assert_same_at(&rt, given, answer, format_args!("at {at}"));
         let n = given.unwrap_or(0);
         assert!(rt;
             bytes
@@ -59,10 +59,10 @@ fn a_failed_read_drops_the_page_that_was_to_give_way(rt: HostRuntime) -> Result<
                 .eq(out.iter().take(n)),
             "at {at}"
         );
-        Check::same_at(&rt, first_pages(&window), pages, format_args!("at {at}"));
+        assert_same_at(&rt, first_pages(&window), pages, format_args!("at {at}"));
     }
 
     // Pages 0 and 1, the read that failed, and page 2.
-    Check::same(&rt, window.into_inner().calls(), 4);
+    assert_same(&rt, window.into_inner().calls(), 4);
     Ok(())
 }

@@ -1,5 +1,5 @@
 // Sessions over a window of two pages, beside the same sessions without one.
-use crate::same::Check;
+use crate::same::assert_same;
 use crate::traced::{newly_traced, window_over};
 use blk_io::{Folder, ListClock, MemFolder, MemSink, MemSource};
 use blk_model::{Limits, MOST_ITEMS};
@@ -243,8 +243,8 @@ fn is_the_same(alloc: Global, row: &Row<'_>) -> Result<(Status, MemSink, bool), 
 fn sessions_print_and_write_the_same_over_two_pages(rt: HostRuntime) -> Result<(), Fail> {
     for row in &ROWS {
         let (status, out, same) = is_the_same(rt.alloc(), row)?;
-        Check::same(&rt, out.written(), row.printed);
-        Check::same(&rt, status, row.status);
+        assert_same(&rt, out.written(), row.printed);
+        assert_same(&rt, status, row.status);
         assert!(rt; same);
     }
     Ok(())
