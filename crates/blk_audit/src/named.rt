@@ -22,7 +22,7 @@ use blk_disk::BlockFiles;
 use blk_io::{Fault, Folder};
 use std::alloc::Global;
 
-/// A walked node, with what it says of its record.
+/// A walked node, with its words: the record that it names, and its dirty flag.
 #[derive(Clone, Copy, Debug)]
 pub struct WalkedNode {
     /// The address of the node.
@@ -86,7 +86,7 @@ impl Lists {
         requires kind { kind_of entry ≡ blocks_256 }
         ensures { (image : Image) → AreListsOf image self.now → result ≡ false → (node : ℕ) → shown.is_named_by image node entry ≡ false }
     {
-        // That the word is one of an address is known once it is read.
+        // Reading it tells the prover that the word is one of an address.
         let _word = entry.word();
         self.named.has(first_of_record(entry))
     }

@@ -23,7 +23,7 @@ use blk_record::{BlockHead, EntryView, Record};
 /// The longest key of all, in bytes: the name of a part.
 pub const LONGEST_NAME: u32 = 32796;
 
-// The bytes of a block of a record.
+// How many bytes a block of a record has.
 const BLOCK: u64 = RECORD_BLOCK as u64;
 
 /// The words of a record that say what it is, and where its chain goes on.
@@ -187,7 +187,7 @@ pub(crate) fn key_place(files: &BlockFiles, entry: Addr, head: Head) -> Result<K
     }
 }
 
-/// Whether a record may have a key of so many bytes: 1 to 32796, in as many blocks.
+/// Whether a record may have a key of this length: 1 to 32796, in as many blocks.
 #[tactic(auto, unfolding(crate::specs::Keys::may_have))]
 pub fn may_have(entry: Addr, key_len: u32) -> bool
     requires { kind_of entry ≡ blocks_256 }

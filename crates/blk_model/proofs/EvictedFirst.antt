@@ -1,4 +1,4 @@
--- What a command evicts goes first: what stays of the rest is what stays of the whole.
+-- What a command evicts is removed first: what stays of the rest is what stays of the whole.
 use Rattle.std.proofs.Common.{◌≡◌, ℕ, zero, suc, ◌+◌, ◌≤◌, Bool, true, false, not, ◌&&◌, ◌||◌, cond, List, [], ◌∷◌, ◌++◌, Some, None, Option, refl, ap, sym, ◌∙◌, subst, arith, length, map, take, ◌⊎◌, inl, inr, ⊎_elim, append_assoc, length-append}
 use Rattle.std.specs.List.{filter, filter_map, cons_option, list_any, AllByRecursion}
 use Rattle.std.specs.Option.{option_and_then, option_map}
@@ -27,7 +27,7 @@ use Rattle.blk_model.proofs.StopRests.{picked_before, owner_key}
 use Rattle.blk_model.proofs.Leads.{may_settle, step_leads}
 use Rattle.blk_model.proofs.Chosen.{Owner, owner_of, picked_chooses, settled_chooses, stays_through}
 
--- Eviction units that go leave who has an item that isn't out.
+-- Evictions leave who has an item that isn't out.
 
 left_first : (groups : List Group) (item : Item) (start : ℕ) (slots : List (Option Object)) → is_out groups item ≡ false → first_with item start (map (option_and_then (left_of groups)) slots) ≡ first_with item start slots
 left_first groups item start [] stays = refl
@@ -36,7 +36,7 @@ left_first groups item start (slot ∷ slots) stays =
     ap (λ b. cond b (Some start) (first_with item (start + 1) (map (option_and_then (left_of groups)) slots))) here
     ∙ ap (cond (slot_has_item item slot) (Some start)) (left_first groups item (start + 1) slots stays)
 
--- an item that nobody has nobody has afterwards
+-- an item that no object has no object has afterwards
 left_none : (groups : List Group) (item : Item) (start : ℕ) (slots : List (Option Object)) → first_with item start slots ≡ None → first_with item start (map (option_and_then (left_of groups)) slots) ≡ None
 left_none groups item start [] none = refl
 left_none groups item start (slot ∷ slots) none = go (slot_has_item item slot) refl none (left_none groups item (start + 1) slots) where
@@ -119,7 +119,7 @@ module _ (state : State) (group : Group) (groups : List Group) where
         ∙ ap (λ r. cond (stays_through state after with o.number) r None) (row_same item o stays)
         ∙ sym ((picked_chooses state after with).somebody item o)
 
-  -- and is durable as it was
+  -- an item that isn't out is durable as it was
   pub settled_left : (item : Item) → is_out (group ∷ groups) item ≡ false → settled_row (without (group ∷ groups) state) item ≡ settled_row state item
   unfolding left_has settled_row
   settled_left item stays = go (owner state item) refl where
@@ -132,7 +132,7 @@ module _ (state : State) (group : Group) (groups : List Group) where
         ∙ ap (λ r. cond o.object.settled r None) (row_same item o stays)
         ∙ sym ((settled_chooses state).somebody item o)
 
--- Items that stay, or that nobody has.
+-- Items that stay, or that no object has.
 
 abbrev pub StaysOrNobody : State → List Group → Item → Type 0
 StaysOrNobody state groups item = (is_out groups item ≡ false) ⊎ (owner state item ≡ None)
@@ -218,13 +218,13 @@ fronts_dooms P to_list state = tt
 fronts_dooms P (to_trim bytes) state = tt
 fronts_dooms P to_total state = tt
 
--- What a command accesses stays, or nobody has it.
+-- What a command accesses stays, or no object has it.
 
 loose_prefix : (stays : Item → Bool) (first others : List Group) → AllByRecursion (IsLoose stays) (first ++ others) → AllByRecursion (IsLoose stays) first
 loose_prefix stays [] others all = tt
 loose_prefix stays (group ∷ first) others all = (all.0, loose_prefix stays first others all.1)
 
--- a part goes for itself, or with its main item
+-- a part is evicted alone, or with its main item
 loose_part : (stays : Item → Bool) (groups : List Group) (key : List ℕ) (n : ℕ) → AllByRecursion (IsLoose stays) groups → is_out groups (main key) ≡ false → stays (part key n) ≡ true → is_out groups (part key n) ≡ false
 loose_part stays [] key n all main_stays pinned = refl
 loose_part stays (whole other parts ∷ groups) key n all main_stays pinned =

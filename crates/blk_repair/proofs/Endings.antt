@@ -1,4 +1,4 @@
--- How steps that break off, or end with the crash word, go one after the other.
+-- How steps that break off, or end with the crash word, follow one another.
 use Rattle.std.proofs.Common.{◌≡◌, ◌⊎◌, inl, inr, ⊎_elim, List, [], ◌∷◌, ◌++◌, refl, sym, ◌∙◌, ap, subst, append_assoc}
 use Rattle.std.specs.Option.{ForSome, option_map}
 use Rattle.std.proofs.lemmas.List.Elements.{All-cons, All-head, All-nil, All-tail}
@@ -25,7 +25,7 @@ heads-same e = cc
 tails-same : {x y : TrailStep} {s t : List TrailStep} → x ∷ s ≡ y ∷ t → s ≡ t
 tails-same e = cc
 
--- nothing is left the last
+-- nothing is left after a last step
 none-left : (x y : TrailStep) (made left : List TrailStep) → x ∷ [] ≡ y ∷ (made ++ left) → y ∷ made ≡ x ∷ []
 none-left x y [] left e = ap (λ (z : TrailStep). z ∷ []) (sym (heads-same e))
 none-left x y (z ∷ made) left e = absurd (no_more (tails-same e))
@@ -46,7 +46,7 @@ front-or-all (z ∷ s) x (y ∷ made) left e = on (front-or-all s x made left (t
     on (inl more) = inl (more.0, ap (λ (w : TrailStep). w ∷ s) heads ∙ ap (λ (l : List TrailStep). y ∷ l) more.1)
     on (inr same) = inr (ap (λ (w : TrailStep). w ∷ made) (sym heads) ∙ ap (λ (l : List TrailStep). z ∷ l) same)
 
--- of steps that spare it and one that makes it 1, the first spare it, or they are all
+-- of steps that leave the crash word and one that makes it 1, the first of them leave it, or they are all of them
 pub spare-or-ended : (s made left : List TrailStep) → SpareIt s → s ++ word_step Index crash_place 1 ≡ made ++ left → SpareIt made ⊎ (made ≡ s ++ word_step Index crash_place 1)
 unfolding word_step
 spare-or-ended s made left spare e =
@@ -55,11 +55,11 @@ spare-or-ended s made left spare e =
 
 -- ---- steps that break off
 
--- none was made
+-- no step was made
 pub breaks-none : {a b : Told} (P : Image → Type 0) → b ≡ a → ForSome a.files P → RepairBreaksOff a b P
 breaks-none P same holds = record { passes = record { steps = []; applies = grows_none same; unnoted = tt; along = holds }; unmarked = All-nil IsOther }
 
--- a part of some steps was, which spares it
+-- a part of some steps was made, which leaves the crash word
 pub breaks-prefix : {a b : Told} {s : List TrailStep} (P : Image → Type 0) (part : AppliesPrefix a b s) → HasNoNote s → SpareIt part.made → ForSome a.files (λ image. Along P image s) → RepairBreaksOff a b P
 breaks-prefix {a} {b} {s} P part quiet spare along = record {
   passes = record {
@@ -75,11 +75,11 @@ breaks-prefix {a} {b} {s} P part quiet spare along = record {
 pub breaks-part : {a b : Told} {s : List TrailStep} (P : Image → Type 0) → AppliesPrefix a b s → HasNoNote s → SpareIt s → ForSome a.files (λ image. Along P image s) → RepairBreaksOff a b P
 breaks-part {a} {b} {s} P part quiet spare along = breaks-prefix P part quiet (spare-prefix part.made part.left (subst SpareIt part.split spare)) along
 
--- one was, which spares it
+-- one step was made, which leaves the crash word
 pub breaks-step : {a b : Told} {x : TrailStep} (P : Image → Type 0) → IsOther x → Applies a b (x ∷ []) → HasNoNote (x ∷ []) → ForSome a.files (λ image. P image × P (applied x image)) → RepairBreaksOff a b P
 breaks-step {a} {b} {x} P other made quiet both = record { passes = record { steps = x ∷ []; applies = made; unnoted = quiet; along = both }; unmarked = All-cons IsOther x [] other (All-nil IsOther) }
 
--- some were, and then others
+-- some steps were made, and then others
 pub breaks-then : {a b c : Told} {P : Image → Type 0} → RepairBreaksOff a b P → RepairBreaksOff b c P → RepairBreaksOff a c P
 breaks-then {a} {b} {c} {P} first second =
     let s : List TrailStep = first.passes.steps in

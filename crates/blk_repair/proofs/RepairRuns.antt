@@ -1,4 +1,4 @@
--- How the parts of repair go one after the other, and what each hands on.
+-- How the parts of repair follow one another, and what each hands on.
 use Rattle.std.proofs.Common.{◌≡◌, inl, inr, ⊎_elim, ℕ, ◌≤◌, ◌%◌, ◌^◌, Bool, List, Option, None, Some, Result, Ok, Err, OnOk, refl, sym, ◌∙◌, ap, subst, arith, [], ◌∷◌, ◌++◌}
 use Rattle.std.specs.Prelude.{All, map, length, Contains}
 use Rattle.std.specs.List.{filter, flat_map}
@@ -173,7 +173,7 @@ module _ (scan : Scan) (a b : Told) (from : Image) (there : a.files ≡ Some fro
 pub silent-deletions : (goes : File → Bool) (first : File) {a b : Told} → DeletesSome goes first a b → a.files ≡ None → b.files ≡ None
 silent-deletions goes first {a} {b} some none = some.1.applies.files ∙ ap (option_map (after (deletions (filter goes some.1.files)))) none
 
--- at each deletion the same is kept and found
+-- at each deletion kept records and recovered contents are the same
 pub deletion-mid : (entry from image : Image) → IsMidDeletion entry from image → IsMidRepair entry image
 deletion-mid entry from image mid = keeps-mid entry image mid.holds.keeps
 
@@ -181,7 +181,7 @@ deletion-mid entry from image mid = keeps-mid entry image mid.holds.keeps
 pub claims-next : (entry from image : Image) (claims : Claims) → IsNextRebuilt entry claims from → IsMidDeletion entry from image → IsNextRebuilt entry claims image
 claims-next entry from image claims next mid = record { holds = mid.holds; claimed = next.claimed }
 
--- the unlinked block files and the unused external files are gone
+-- the unlinked block files and the unused external files are deleted
 others-deleted : (entry from mid last : Image) (claims : Claims) → IsNextRebuilt entry claims from → IsMidDeletion entry from mid → OnlyLinked mid → IsMidDeletion entry mid last → OnlyClaimed last (claims_of_loaded (kept last)) → AreOthersDeleted entry from last
 others-deleted entry from mid last claims next first linked second claimed = record {
   holds = second.holds;

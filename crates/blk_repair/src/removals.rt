@@ -18,7 +18,7 @@ use blk_lru::remove;
 
 /// Removes the walked nodes that aren't kept from the LRU list, in its order. Those that are kept are some of the walked ones, in the same order.
 ///
-/// A node goes out by an operation of its own, so by at most 17 folder calls; a list in which all nodes are kept takes
+/// A node is removed by an operation of its own, so by at most 17 folder calls; a list in which all nodes are kept takes
 /// none. A failed check is one of `remove`.
 pub fn remove_others<F: Folder>(
     folder: &mut F,
@@ -31,7 +31,7 @@ pub fn remove_others<F: Folder>(
     ensures steps { OnOk result (OnImage F.told folder.old folder.new (DoesAll (removal_steps (all_but walked.now kept.now)))) }
     ensures prefix { MakesPartOf (F.told folder.old) (F.told folder.new) (λ from. removal_steps (all_but walked.now kept.now) from) }
 
-    // Where the list was ended with the walked nodes, it is repaired in the end, and the same is kept and found at each
+    // Where the list was ended with the walked nodes, it is repaired in the end, and kept records and recovered contents are the same at each
     // word.
     ensures mended { OnOk result (WhereEnded F.told folder.old folder.new walked.now kept.now (λ entry from. Leaves IsListMended entry)) }
     ensures stops { WhereEnded F.told folder.old folder.new walked.now kept.now (λ entry from. HoldsAlong HoldsTheSame entry) }

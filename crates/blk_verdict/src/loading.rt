@@ -56,7 +56,7 @@ pub enum Verdict {
     Dropped(Reason),
 }
 
-/// The verdict on a node, as it says what it names and whether it is dirty.
+/// The verdict on a node, by the record that it names and by whether it is dirty.
 ///
 /// One folder call reads the record, and one its key; the others are those of `load_walked`. `reached` says whether a chain
 /// reaches the contents. A failed check is a read that gave too few bytes; a folder whose files are those of `files` gives none.
@@ -104,7 +104,7 @@ pub(crate) fn load_words<F: Folder>(
     ensures short { IfDamaged result (IsCutRead files.now (F.told folder.old)) }
     ensures untold { ForSome (F.told folder.old).files (Agrees files.now) → IfDamaged result (λ _. (F.told folder.old).files ≡ None) }
 {
-    // That the word is one of an address is known once it is read.
+    // Reading it tells the prover that the word is one of an address.
     let _word = entry.word();
     match reason_by_words(node.addr, entry, node.dirty, &said.words) {
         Some(reason) => Ok(Verdict::Dropped(reason)),

@@ -65,7 +65,7 @@ pub its-file : (w : ℕ) → (kind_of w == external) ≡ false → is_in_file (f
 unfolding is_in_file
 its-file w apart = rw apart (eq-eqb (file_selector w) (file_selector w) refl)
 
--- and in no other
+-- a word of blocks is in no other file
 pub other-in : (w n : ℕ) → (kind_of w == external) ≡ false → n ≢ file_selector w → is_in_file n w ≡ false
 unfolding is_in_file
 other-in w n apart differs = rw apart (⊎_elim (λ (e : (file_selector w == n) ≡ true). absurd (differs (sym (eqb-true (file_selector w) n e)))) (λ (e : (file_selector w == n) ≡ false). e) (cases_Bool (file_selector w == n)))
@@ -106,7 +106,7 @@ module _ (w : ℕ) (from image : Image) (a : AddsAllocation from w image) (state
   w-stands : stands_in image w ≡ true
   w-stands = All-head (λ v. stands_in image v ≡ true) w _ here.stand
 
-  -- nobody had what is allocated
+  -- what is allocated had no owner
   fresh : (claim : Claim) → has_claim (claims_of w) claim ≡ true → has_claim (claims_of_all (words_in_use unlinked (all_loaded state layout k.numbers))) claim ≡ false
   fresh (ExternalOf n) e = absurd (let z : true ≡ false = sym e ∙ blocks-only w n apart in cc)
   fresh (BlockOf n b) e = ⊎_elim

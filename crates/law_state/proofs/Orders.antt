@@ -27,7 +27,7 @@ left-stops state moment request held image left finds = record {
   left = subst (λ (rows : List Row). StopOutcome state moment request (step state moment request).state rows) (sym finds.1) left;
 }
 
--- an item that stays, or that nobody has, is durable as it was
+-- an item that stays, or that no object has, is durable as it was
 settled-both : (state : State) (groups : List Group) (item : Item) → StaysOrNobody state groups item → settled_row (without groups state) item ≡ settled_row state item
 unfolding without
 settled-both state [] item either = refl
@@ -55,7 +55,7 @@ orders-left state moment request first others valid is count within =
           ∙ ap (filter_map (picked state after (not closes))) (sym (after-first state moment request first others valid is count));
     }
 
--- all that is evicted goes first
+-- all that is evicted is removed first
 pub all-first : (state : State) (moment : ℕ) (request : Request) → refused moment request state ≡ None → EvictsFirst state moment request (evicted moment request state) []
 all-first state moment request passes = record { passes = passes; groups = sym (append-nil (evicted moment request state)) }
 

@@ -1,4 +1,4 @@
--- One item goes out of the LRU list and out of its chain.
+-- One item is removed from the LRU list and unlinked from its chain.
 use Rattle.std.proofs.Common.{◌≡◌, ℕ, ◌<◌, List, [], ◌∷◌, ◌++◌, map, refl, ap, sym, ◌∙◌, subst, arith, Bool, true, false, Option, Some, None, ⊎_elim, append_assoc}
 use Rattle.std.specs.Prelude.{◌||◌, ◌&&◌, ◌==◌, not, nat_lt, filter, IfSome, if◌then◌else◌}
 use Rattle.std.proofs.lemmas.Bool.{and_parts, cases_Bool, eq-eqb, eqb-true, or_left, or_right}
@@ -148,7 +148,7 @@ module _ (state : State) (layout : Layout) (unlinked : List ℕ) (objects : List
       (λ (e : (node == layout.place other) ≡ false). e)
       (cases_Bool (node == layout.place other))
 
-  -- and has another record
+  -- what stays has another record
   other-record : (n : ℕ) (l : Loaded) → layout.at n ≡ Some l → (node == n) ≡ false → (l.contents == was.contents) ≡ false
   other-record n l is apart = other-record-of state layout unlinked from k node n was l here is apart
 

@@ -1,4 +1,4 @@
--- In the worked folder `a` is dirty, its part goes, and is made again in its blocks, which are unlinked then.
+-- In the worked folder `a` is dirty, its part is removed, and is made again in its blocks, which are unlinked then.
 use Rattle.std.proofs.Common.{◌≡◌, inl, inr, ℕ, List, [], ◌∷◌, ◌++◌, refl, ap, sym, ◌∙◌, subst, arith, lit<, lit≤, Bool, true, false, None, Ok, Option, Some, codes}
 use Rattle.std.specs.Prelude.{◌||◌, if◌then◌else◌, map, nat_lt, slice_set}
 use Rattle.spec_image.specs.Footprint.{SameOutside}
@@ -102,7 +102,7 @@ pub unsettled-keeps : Keeps unsettled dirty_layout [] dirty_folder
 unsettled-keeps = marking-counts both worked_layout [] both_folder dirty_folder 1 sparse_object the_parent 7 both-keeps (record { here = refl; live = refl; at = refl })
     (marked-valid both 1 sparse_object false both-keeps.entries.valid refl refl (λ e. refl)) (λ some. sym both-id) a_is_marked
 
--- ---- its part goes
+-- ---- the part of `a` is removed
 
 all-there : KeepsPartlyOut unsettled dirty_layout (λ item. true) chain_of [] dirty_folder
 all-there = kept-begin unsettled dirty_layout [] dirty_folder unsettled-keeps.entries
@@ -365,6 +365,6 @@ part_is_made = record {
 part_is_kept : KeepsUncounted (with_first bare objects (part (codes "a") 0)) (with_new_part bare_layout (codes "a") 0 dirty_parent the_part) [] linked_folder
 part_is_kept = parts-kept bare objects bare_layout [] (codes "a") 0 dirty_parent dirty_parent the_part bare_folder linked_folder bare-keeps written (values-keep bare 1 bare_object 0 part_value refl) part_is_made
 
--- and is one item more
+-- the state with the part has one item more
 part_is_more : IsPartMore bare (with_first bare objects (part (codes "a") 0)) bare_layout (with_new_part bare_layout (codes "a") 0 dirty_parent the_part) dirty_parent dirty_parent the_part
 part_is_more = part-more (view_of bare_folder) bare objects bare_layout (codes "a") 0 dirty_parent dirty_parent the_part written

@@ -1,4 +1,4 @@
--- In the worked folder items go out: `b`, and so a DoomKey of it; the part alone; and `a`, whose main item and part go out one after the other.
+-- In the worked folder items are removed: `b`, and so a DoomKey of it; the part alone; and `a`, whose main item and part are removed one after the other.
 use Rattle.std.proofs.Common.{◌≡◌, ℕ, zero, suc, ◌<◌, ◌≤◌, List, [], ◌∷◌, ◌++◌, refl, sym, ◌∙◌, subst, arith, lit<, lit≤, Bool, true, false, Some, codes}
 use Rattle.std.specs.Prelude.{if◌then◌else◌, ◌==◌, filter, not}
 use Rattle.spec_image.specs.Bytes.{zeros}
@@ -151,7 +151,7 @@ alone_last = record {
   others = λ other apart. each-chain (IsSameWithout (λ w. not (w == records 1)) (records 0)) other (λ e. not-both e apart) (λ e. refl) (λ e. refl) refl;
 }
 
--- ---- `b` goes
+-- ---- `b` is removed
 
 abbrev all_kept : KeepsPartlyOut worked worked_layout (λ item. true) chain_of [] worked_folder
 all_kept = kept-begin worked worked_layout [] worked_folder worked-keeps.entries
@@ -180,7 +180,7 @@ b_is_gone = doomed-removed worked worked_layout [] worked_folder without_b 0 pla
 b_is_doomed : KeepsUncounted (step worked 100 (to_doom_key (codes "b"))).state (layout_removed worked_layout (nodes 2) (records 2)) (words_of the_plain ++ []) without_b
 b_is_doomed = unheld-dooms-end worked 100 (to_doom_key (codes "b")) worked_layout [] worked_folder without_b 0 plain_object the_plain worked-keeps.entries (unfold computing in refl) (unfold computing in refl) refl refl refl refl removed_b
 
--- and the eviction unit of it is gone
+-- and the eviction unit of `b` is out
 none-gone : worked ≡ without [] worked
 unfolding computing
 none-gone = refl
@@ -188,14 +188,14 @@ none-gone = refl
 pub b_is_evicted : KeepsUncounted (without ([] ++ whole (codes "b") [] ∷ []) worked) (layout_removed worked_layout (nodes 2) (records 2)) (words_of the_plain ++ []) without_b
 b_is_evicted = plain-groups-go worked [] worked_layout [] worked_folder without_b 0 plain_object [] the_plain (subst (λ (m : State). KeepsUncounted m worked_layout [] worked_folder) none-gone worked-keeps.entries) (unfold computing in refl) refl refl (unfold computing in refl) removed_b
 
--- the same is said of the state without its main item
+-- the state without the eviction unit of `b` is the one without its main item
 b_goes_whole : IsWithout worked (doomed 0 worked (Some plain_object)).objects (is_of_another (codes "b")) (main (codes "b"))
 b_goes_whole = (unheld-go worked 0 plain_object worked-keeps.entries.valid refl refl refl (λ n. refl) (state_doomed worked worked-keeps.entries.valid 0 plain_object refl refl)).0
 
 b_is_removed : KeepsUncounted (without_items worked (doomed 0 worked (Some plain_object)).objects (is_of_another (codes "b"))) (layout_removed worked_layout (nodes 2) (records 2)) (words_of the_plain ++ []) without_b
 b_is_removed = removed-unlinked worked worked_layout [] (doomed 0 worked (Some plain_object)).objects (is_of_another (codes "b")) (main (codes "b")) the_plain worked_folder removed_b.removing.between without_b worked-keeps.entries b_goes_whole refl removed_b.removing.unlisted removed_b.removing.unlinking removed_b.leaves removed_b.sealed
 
--- ---- the part goes alone
+-- ---- the part is evicted alone
 
 abbrev without_part : Image
 without_part = unchained (unlisted worked_folder (nodes 1)) 0xB6C
@@ -212,7 +212,7 @@ part_is_gone = part-removed worked worked_layout [] worked_folder without_part 1
 part_is_not_found : Finds (rest (without (single (codes "a") 0 ∷ []) worked)) without_part
 part_is_not_found = (removing-part worked worked_layout [] worked_folder without_part 1 0 sparse_object the_part worked-keeps.entries refl refl refl).1 removed_part.removing
 
--- nor was it once its node was out of the list
+-- the part wasn't found either once its node was out of the list
 pub part-unlisted : IsRemovalDone worked_folder (nodes 1) (unlisted worked_folder (nodes 1))
 part-unlisted = out-of-list worked worked_layout (λ item. true) chain_of [] worked_folder all_kept worked-writable (part (codes "a") 0) the_part refl [] (nodes 0 ∷ nodes 2 ∷ []) refl 0xB6C alone_part
 
@@ -228,7 +228,7 @@ part_is_out = record {
 out_is_gone : Finds (rest (without (single (codes "a") 0 ∷ []) worked)) (unlisted worked_folder (nodes 1))
 out_is_gone = part-out worked worked_layout (codes "a") 0 (unlisted worked_folder (nodes 1)) worked-keeps.entries.valid part_is_out
 
--- ---- `a` goes, its main item first
+-- ---- `a` is removed, its main item first
 
 abbrev pub without_main : Image
 without_main = unchained (unlisted worked_folder (nodes 0)) 0xA782
@@ -256,7 +256,7 @@ main_leaves_others = (own-items-leave (codes "a")).0
 stops_between : MayStop worked 100 (to_doom_key (codes "a")) without_main
 stops_between = partly-out-dooms-stop worked 100 (to_doom_key (codes "a")) worked_layout 1 sparse_object but_main (chains_but chain_of (records 0)) (words_of the_parent ++ []) without_main (codes_are_bytes (codes "a") (omega arith, tt)) (unfold computing in refl) (unfold computing in refl) refl main_leaves_others main_is_out
 
--- and then its part
+-- then the part of `a` is out
 abbrev pub without_a : Image
 without_a = unchained (unlisted without_main (nodes 1)) 0xB6C
 
@@ -272,7 +272,7 @@ a-writable = ready-out worked worked_layout but_main (chains_but chain_of (recor
 follows-unlisted : IsRemovalDone without_main (nodes 1) (unlisted without_main (nodes 1))
 follows-unlisted = out-of-list worked worked_layout but_main (chains_but chain_of (records 0)) (words_of the_parent ++ []) without_main main_is_out main-writable (part (codes "a") 0) the_part refl [] (nodes 2 ∷ []) refl 0xB6C alone_after
 
--- while it goes, the durable contents with `a` doomed are recovered
+-- while `a` is removed, the durable contents with `a` doomed are recovered
 next_part_finds : Finds (rest (doomed 1 worked (Some sparse_object))) (unlisted without_main (nodes 1))
 next_part_finds = next-parts-find worked worked_layout 1 sparse_object but_main (chains_but chain_of (records 0)) (words_of the_parent ++ []) 0 without_main (unlisted without_main (nodes 1)) refl main_leaves_others main_is_out refl refl follows-unlisted.partly
 
@@ -304,7 +304,7 @@ a_is_whole_out = record {
 a_is_removed : KeepsUncounted (doomed 1 worked (Some sparse_object)) (layout_without_key worked worked_layout (codes "a") chains_left) (words_of_key worked worked_layout (codes "a") ++ []) without_a
 a_is_removed = whole-removed worked worked_layout [] chains_left worked_folder without_a 1 sparse_object worked-keeps.entries refl refl refl a_is_whole_out
 
--- the same is said of the state without its items
+-- the state with `a` doomed is the one without its items
 a_goes_whole : IsLess worked (doomed 1 worked (Some sparse_object)).objects (is_of_another (codes "a"))
 a_goes_whole = unheld-less worked 1 sparse_object worked-keeps.entries.valid refl refl refl (state_doomed worked worked-keeps.entries.valid 1 sparse_object refl refl)
 

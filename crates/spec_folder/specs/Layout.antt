@@ -127,8 +127,8 @@ pub record Holds (store : StoreView) (state : State) (layout : Layout) : Type 0 
   pub shows : Shows store layout
   pub lies : IsLayoutOf state layout
 
--- a view has the state by a layout: its store agrees with a layout that fits the state, its LRU list is whole, with the items' nodes in the state's order, and
--- it is idle
+-- a view represents the state by a layout: its store agrees with a layout that fits the state, its LRU list is whole, with the items' nodes in the state's
+-- order, and it is idle
 pub record Represents (view : View) (state : State) (layout : Layout) : Type 0 where
   pub holds : Holds view.store state layout
   pub list : IsList view.list (order state layout)
@@ -136,7 +136,7 @@ pub record Represents (view : View) (state : State) (layout : Layout) : Type 0 w
 
 -- Records in the midst of a change.
 
--- as much of `Holds` as recovery needs, but for some nodes, whose records are in the midst of a change or gone
+-- as much of `Holds` as recovery needs, but for some nodes, whose records are in the midst of a change or removed
 pub record HoldsExcept (except : ℕ → Bool) (store : StoreView) (state : State) (layout : Layout) : Type 0 where
   pub no_record : store.entry 0 ≡ None
   pub each : (node : ℕ) (loaded : Loaded) → layout.at node ≡ Some loaded → except node ≡ false → load store (rule_of layout node) node ≡ Ok loaded

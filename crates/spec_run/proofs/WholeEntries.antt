@@ -178,7 +178,7 @@ fronts_fine a b (item ∷ list) items (inr some) =
 
 -- What a command accesses it doesn't evict.
 
--- an item goes alone, or with its main item
+-- an item is evicted alone, or with its main item
 stays_in : (b : Item) (groups : List Group) → IsNotAlone b groups → is_out groups (main (key_of b)) ≡ false → is_out groups b ≡ false
 stays_in b [] apart main_stays = refl
 stays_in b (whole key parts ∷ groups) apart main_stays =
@@ -328,7 +328,7 @@ entries_are_whole from image opened state commands steps command crash valid row
 
 -- An object that a command makes.
 
--- nobody had an item of it
+-- before the command no object had an item of the new one
 fresh_item : (state : State) (valid : IsValidState state) (command : Stamped) (item : Item) (n m : ℕ) → owner (state_then state command) item ≡ Some n → object_at state n ≡ None → owner state item ≡ Some m → ⊥
 fresh_item state valid command item n m owned_after none owned =
     let after = state_then state command in

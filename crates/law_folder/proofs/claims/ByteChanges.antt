@@ -1,4 +1,4 @@
--- A change of bytes that a footprint of blocks covers is a change of the view inside that footprint.
+-- A change of bytes that a footprint of blocks contains is a change of the view inside that footprint.
 use Rattle.std.proofs.Common.{◌≡◌, ℕ, zero, suc, ◌+◌, ◌-◌, ◌*◌, ◌/◌, ◌<◌, ◌≤◌, ◌≢◌, List, [], map, refl, ap, sym, ◌∙◌, subst, arith, ◌⊎◌, inl, inr, ⊎_elim, Bool, true, false, Option, Some, None}
 use Rattle.std.specs.Prelude.{if◌then◌else◌, ◌&&◌, ◌==◌, nat_le, nat_lt, not, is_some}
 use Rattle.std.specs.List.{range_with_len}
@@ -157,7 +157,7 @@ last-there image w =
     let last : first_block w + block_count w - 1 + 1 ≡ first_block w + block_count w = omega arith in
     rw (last, ends-at w) refl
 
--- then all are
+-- where blocks are valid all of them are there
 pub all-there : (image : Image) (w b : ℕ) → stands_in_blocks image w ≡ true → b < first_block w + block_count w → is_there image (file_selector w) (kind_of w) b ≡ true
 unfolding stands_as_blocks is_there
 all-there image w b st below =

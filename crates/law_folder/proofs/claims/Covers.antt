@@ -1,4 +1,4 @@
--- What covers the bytes of blocks, of external files, of headers and of the index.
+-- What contains the bytes of blocks, of external files, of headers and of the index.
 use Rattle.std.proofs.Common.{◌≡◌, ◌⊎◌, inl, inr, ⊎_elim, ℕ, ◌+◌, ◌*◌, ◌<◌, ◌≤◌, refl, ap, sym, ◌∙◌, subst, arith, Bool, true, false, Some}
 use Rattle.std.specs.Prelude.{◌&&◌, ◌||◌, nat_le, nat_lt}
 use Rattle.std.proofs.lemmas.Bool.{eq-eqb, and_parts, leb-true, ltb-true, or_from, false_from_ne_true}
@@ -20,7 +20,7 @@ in-range file other at n i e =
     let q = and_parts (nat_le at i) (nat_lt i (at + n)) p.1 in
     (same_file-true file other p.0, leb-true at i q.0, ltb-true i (at + n) q.1)
 
--- no byte outside it
+-- no byte outside a range of a file is in it
 pub out-range : (file other : File) (at n i : ℕ) → (file ≡ other → at ≤ i → i < at + n → ⊥) → (range file at n).bytes other i ≡ false
 out-range file other at n i never = false_from_ne_true ((range file at n).bytes other i) (λ e. let p = in-range file other at n i e in never p.0 p.1 p.2)
 

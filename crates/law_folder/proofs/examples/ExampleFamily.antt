@@ -1,4 +1,4 @@
--- The laws on items at a sparse object with one part, whose node is in front of its parent's: the part goes with its parent.
+-- The laws on items at a sparse object with one part, whose node is in front of its parent's: the part is removed with its parent.
 use Rattle.std.proofs.Common.{◌≡◌, ◌⊎◌, inl, inr, ⊎_elim, ℕ, zero, suc, ◌<◌, List, [], ◌∷◌, ◌++◌, map, refl, ap, sym, ◌∙◌, subst, arith, Bool, true, false, Option, Some, None, Ok}
 use Rattle.std.specs.Prelude.{if◌then◌else◌, ◌==◌, ◌&&◌, ◌||◌, nat_lt, codes, replicate}
 use Rattle.std.specs.List.{range_with_len}
@@ -37,7 +37,7 @@ use Rattle.law_folder.proofs.examples.DamagedParts.{index_head, sparse_view, bot
 abbrev pub parent_bytes : List ℕ
 parent_bytes = index_head ++ 1 ∷ replicate 8191 0
 
--- what it says
+-- what the parent's index says
 abbrev pub parent_index : ParentIndex
 parent_index = record { signature = 5; key_len = 1; has_part = λ n. nat_lt n 65536 && map_bit (content parent_bytes) 64 n }
 
@@ -45,7 +45,7 @@ parent_index = record { signature = 5; key_len = 1; has_part = λ n. nat_lt n 65
 abbrev pub part_bytes : List ℕ
 part_bytes = index_head ++ replicate 128 0
 
--- what it says
+-- what the part's index says
 abbrev pub part_index : PartIndex
 part_index = record { signature = 5; key_len = 1; present = λ b. nat_lt b 1024 && map_bit (content part_bytes) 64 b; partial = None }
 
@@ -65,7 +65,7 @@ part_node = 0x90000001
 abbrev pub the_parent : Loaded
 the_parent = record { node = parent_node; contents = 0xA0010000; dirty = 0; key = codes "a"; role = IsParent parent_index; streams = [] ∷ [] ∷ parent_bytes ∷ []; others = 0 ∷ 0 ∷ 0 ∷ 0xC2030000 ∷ 0 ∷ [] }
 
--- and the part as this
+-- the part is loaded as this
 abbrev pub the_part : Loaded
 the_part = record { node = part_node; contents = 0xA0010001; dirty = 0; key = codes "Range_a:5:0"; role = IsPart part_name part_index; streams = [] ∷ [] ∷ part_bytes ∷ []; others = 0 ∷ 0 ∷ 0 ∷ 0xA0010008 ∷ 0 ∷ [] }
 
@@ -78,7 +78,7 @@ pub parent-loads : load family_stock (unchained_rule 0) parent_node ≡ Ok the_p
 unfolding load load_record load_key is_key_length stored_key stored_stream stored_streams role_of parent_role read_parent_index words_at block_count entry_blocks hash mixed of_bytes of_one
 parent-loads = refl
 
--- and the part's
+-- the part's node loads
 part-loads : load family_stock (unchained_rule 0) part_node ≡ Ok the_part
 unfolding load load_record load_key is_key_length stored_key stored_stream stored_streams role_of part_role is_covered read_part_index read_name split_last child_name digits words_at block_count entry_blocks hash mixed of_bytes of_four of_three
 part-loads = refl
@@ -179,7 +179,7 @@ part-laid = record {
   parent = record { name = part_name; index = part_index; role = refl; of_key = refl; listed = refl; parent = the_parent; at_parent = refl; of = refl };
 }
 
--- and the parent
+-- the parent lies at its node
 pub parent-laid : IsPlacedAt family_state family_layout (main (codes "a"))
 parent-laid = record { loaded = the_parent; here = refl; row = parent-row; mark = refl; parent = tt }
 
@@ -258,7 +258,7 @@ its-main key n h = ⊎_elim
 pub main-listed : (key : List ℕ) (n : ℕ) → is_listed family_state (part key n) ≡ true → is_listed family_state (main key) ≡ true
 main-listed key n h = subst (λ (k : List ℕ). is_listed family_state (main k) ≡ true) (sym (its-main key n h).0) refl
 
--- a part that passes goes with its parent
+-- a part that passes the test passes with its parent
 goes-with : GoesWith family_layout family_state.uses held_rule is_clean
 goes-with = record {
   clean = λ item l h at passes. passes;
