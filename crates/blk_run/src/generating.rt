@@ -1,22 +1,17 @@
 // The iterations of a generator are played.
-ghost use Rattle.std.specs.Prelude.{◌≡◌, ◌≤◌, ◌<◌, ◌+◌, ◌*◌, ◌^◌, ◌++◌, Bool, List, Option, ℕ, length, OnOk, false, Some};
+ghost use Rattle.std.specs.Prelude.{◌≡◌, ◌≤◌, ◌<◌, ◌+◌, ◌++◌, length, OnOk, false};
 ghost use Rattle.std.specs.Option.{ForSome, option_map};
 ghost use Rattle.spec_image.specs.Told.{Rises};
 ghost use Rattle.blk_io.specs.Streams.{Appends, GoesOn};
 ghost use Rattle.blk_model.specs.Request.{request_of};
-ghost use Rattle.spec_run.specs.Run.{turns};
-ghost use Rattle.spec_run.specs.Script.{totals_line};
-ghost use Rattle.blk_gen.specs.Counting.{counts_line};
 ghost use Rattle.blk_gen.specs.Draws.{generated_bytes};
-ghost use Rattle.blk_gen.specs.Generator.{created_turn, gen_script, turn_script, used_turn};
+ghost use Rattle.blk_gen.specs.Generator.{created_turn, turn_script, used_turn};
 ghost use Rattle.blk_object.specs.FailedChecks.{IsFailedCheck};
 ghost use Rattle.blk_cache.specs.Stepping.{IfDone, IfSink, IfStepDamaged, IfStepDevice};
 ghost use Rattle.blk_run.specs.Errors.{IsOnlySink};
-ghost use Rattle.blk_run.specs.Generating.{AreWithin, AsksCounted, Following, IsGeneratedRequest, PlaysCounted, evicted_by, unshown};
-ghost use Rattle.blk_run.specs.Playing.{PlaysPart, SoFar, StandsAt, around};
-ghost use Rattle.blk_run.specs.Telling.{ReadsAs};
+ghost use Rattle.blk_run.specs.Generating.{IsGeneratedRequest, evicted_by};
 ghost use Rattle.blk_disk.specs.Open.{IsOpen};
-ghost use Rattle.blk_cache.specs.CacheKeeping.{KeepsState};
+ghost use Rattle.blk_run.specs.RunClauses.{CountsBy, From, FromCounts, PlaysGenerated, PlaysTurn, generated_totals, on};
 
 use crate::counting::show_totals;
 use crate::fixed::is_missing;
@@ -43,7 +38,7 @@ pub(crate) fn play_generated<F: Folder, K: Sink, C: Clock>(
     clock: &mut C,
 ) -> Result<(), StepFault>
     requires is_open { ForSome (F.told folder.old).files (IsOpen cache.old.files) }
-    ensures played { ReadsAs (C.readings clock.old) (C.readings clock.new) (λ early late. (refused : Bool) (far : SoFar) (left : ℕ) → StandsAt far (KeepsState cache.old) (cache.old.notes) (left + 2 * (5 * count)) (F.told folder.old) → PlaysPart result (turns (gen_script seed count)) far (KeepsState cache.new) (cache.new.notes) left (around (F.told folder.old) (K.written out.old) (Some early) refused) (around (F.told folder.new) (K.written out.new) (Some late) refused)) }
+    ensures played { PlaysGenerated result seed count (on F.told folder.old folder.new) (on C.readings clock.old clock.new) cache.old cache.new (on K.written out.old out.new) }
     ensures is_open { IfDone result (ForSome (F.told folder.new).files (IsOpen cache.new.files)) }
     ensures later { F.faults folder.old ≤ F.faults folder.new }
     ensures printed_later { GoesOn K.is K.faults out.old out.new }
@@ -83,7 +78,7 @@ fn play_turn<F: Folder, C: Clock>(
     requires is_open { ForSome (F.told folder.old).files (IsOpen cache.old.files) }
     requires key { turn.now.key_number < 1000 }
     requires buffer { turn.now.byte_count ≤ length buffer.old }
-    ensures played { ReadsAs (C.readings clock.old) (C.readings clock.new) (λ early late. (far : SoFar) (left commands : ℕ) (following : Following) (written : Option (List ℕ)) (refused : Bool) → commands + 5 < 2 ^ 36 → AreWithin commands counts.old → StandsAt far (KeepsState cache.old) (cache.old.notes) (left + 10) (F.told folder.old) → PlaysCounted result (commands + 5) counts.new (turn_script number turn.now counts.old following) (following counts.new) far (KeepsState cache.new) (cache.new.notes) left (unshown (F.told folder.old) written (Some early) refused) (unshown (F.told folder.new) written (Some late) refused)) }
+    ensures played { FromCounts (on F.told folder.old folder.new) (on C.readings clock.old clock.new) cache.old counts.old 5 10 (PlaysTurn result 5 (turn_script number turn.now counts.old) counts.new cache.new) }
     ensures is_open { IfDone result (ForSome (F.told folder.new).files (IsOpen cache.new.files)) }
     ensures later { F.faults folder.old ≤ F.faults folder.new }
     ensures damaged { IfStepDamaged result (IsFailedCheck cache.new.files (F.told folder.new)) }
@@ -116,7 +111,7 @@ fn play_missing<F: Folder, C: Clock>(
     requires is_open { ForSome (F.told folder.old).files (IsOpen cache.old.files) }
     requires key { turn.now.key_number < 1000 }
     requires buffer { turn.now.byte_count ≤ length buffer.old }
-    ensures played { ReadsAs (C.readings clock.old) (C.readings clock.new) (λ early late. (far : SoFar) (left commands : ℕ) (following : Following) (written : Option (List ℕ)) (refused : Bool) → commands + 4 < 2 ^ 36 → AreWithin commands counts.old → StandsAt far (KeepsState cache.old) (cache.old.notes) (left + 8) (F.told folder.old) → PlaysCounted result (commands + 4) counts.new (created_turn number turn.now counts.old following) (following counts.new) far (KeepsState cache.new) (cache.new.notes) left (unshown (F.told folder.old) written (Some early) refused) (unshown (F.told folder.new) written (Some late) refused)) }
+    ensures played { FromCounts (on F.told folder.old folder.new) (on C.readings clock.old clock.new) cache.old counts.old 4 8 (PlaysTurn result 4 (created_turn number turn.now counts.old) counts.new cache.new) }
     ensures is_open { IfDone result (ForSome (F.told folder.new).files (IsOpen cache.new.files)) }
     ensures later { F.faults folder.old ≤ F.faults folder.new }
     ensures damaged { IfStepDamaged result (IsFailedCheck cache.new.files (F.told folder.new)) }
@@ -145,7 +140,7 @@ fn play_used<F: Folder, C: Clock>(
 ) -> Result<(), StepFault>
     requires is_open { ForSome (F.told folder.old).files (IsOpen cache.old.files) }
     requires buffer { turn.now.byte_count ≤ length buffer.old }
-    ensures played { ReadsAs (C.readings clock.old) (C.readings clock.new) (λ early late. (far : SoFar) (left commands : ℕ) (following : Following) (written : Option (List ℕ)) (refused : Bool) → commands + 3 < 2 ^ 36 → AreWithin commands counts.old → StandsAt far (KeepsState cache.old) (cache.old.notes) (left + 6) (F.told folder.old) → PlaysCounted result (commands + 3) counts.new (used_turn number turn.now counts.old following) (following counts.new) far (KeepsState cache.new) (cache.new.notes) left (unshown (F.told folder.old) written (Some early) refused) (unshown (F.told folder.new) written (Some late) refused)) }
+    ensures played { FromCounts (on F.told folder.old folder.new) (on C.readings clock.old clock.new) cache.old counts.old 3 6 (PlaysTurn result 3 (used_turn number turn.now counts.old) counts.new cache.new) }
     ensures is_open { IfDone result (ForSome (F.told folder.new).files (IsOpen cache.new.files)) }
     ensures later { F.faults folder.old ≤ F.faults folder.new }
     ensures damaged { IfStepDamaged result (IsFailedCheck cache.new.files (F.told folder.new)) }
@@ -191,7 +186,7 @@ fn ask_counted<F: Folder, C: Clock>(
 ) -> Result<Answer, StepFault>
     requires is_open { ForSome (F.told folder.old).files (IsOpen cache.old.files) }
     requires asked { IsGeneratedRequest (request_of command.now) }
-    ensures asked { ReadsAs (C.readings clock.old) (C.readings clock.new) (λ early late. (far : SoFar) (left : ℕ) → StandsAt far (KeepsState cache.old) (cache.old.notes) (left + 2) (F.told folder.old) → AsksCounted result (request_of command.now) counts.old counts.new far (KeepsState cache.new) (cache.new.notes) left (F.told folder.old) (F.told folder.new) (Some early) (Some late)) }
+    ensures asked { From (on F.told folder.old folder.new) (on C.readings clock.old clock.new) cache.old 2 (CountsBy result command.now counts.old counts.new cache.new) }
     ensures is_open { IfDone result (ForSome (F.told folder.new).files (IsOpen cache.new.files)) }
     ensures later { F.faults folder.old ≤ F.faults folder.new }
     ensures damaged { IfStepDamaged result (IsFailedCheck cache.new.files (F.told folder.new)) }
@@ -232,8 +227,8 @@ fn evicted_by(command: &Command, answer: &Answer, before: u64, after: u64) -> u6
 
 // Prints what was counted, and the totals of a cache.
 fn show_counts<K: Sink>(cache: &Cache, counts: &Counts, out: &mut K) -> Result<(), StepFault>
-    ensures printed { OnOk result (K.written out.new ≡ option_map (λ w. w ++ (counts_line counts.now ++ totals_line cache.now.items cache.now.bytes)) (K.written out.old)) }
-    ensures front { Appends (K.written out.old) (K.written out.new) (counts_line counts.now ++ totals_line cache.now.items cache.now.bytes) }
+    ensures printed { OnOk result (K.written out.new ≡ option_map (λ w. w ++ generated_totals counts.now cache.now) (K.written out.old)) }
+    ensures front { Appends (K.written out.old) (K.written out.new) (generated_totals counts.now cache.now) }
     ensures only { IsOnlySink result }
     ensures later { GoesOn K.is K.faults out.old out.new }
     ensures handed { OnOk result (K.waiting out.new ≡ false) }

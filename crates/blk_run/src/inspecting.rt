@@ -1,14 +1,12 @@
 // The subcommands that print what a folder holds, and leave it as it is.
-ghost use Rattle.std.specs.Prelude.{◌≡◌, ◌≤◌, List, Option, ℕ, false, OnOk};
+ghost use Rattle.std.specs.Prelude.{◌≡◌, ◌≤◌, false, OnOk};
 ghost use Rattle.spec_image.specs.Told.{Rises, Stays};
-ghost use Rattle.blk_io.specs.Streams.{GoesOn, Readings};
-ghost use Rattle.blk_model.specs.State.{Bounds};
+ghost use Rattle.blk_io.specs.Streams.{GoesOn};
 ghost use Rattle.blk_inspect.specs.Texts.{inspect_text, verify_text};
 ghost use Rattle.blk_run.specs.Shown.{PrintsFault, status_shown};
 ghost use Rattle.blk_run.specs.Errors.{IsFlushed};
-ghost use Rattle.blk_run.specs.Work.{Performs, folder_text};
-ghost use Rattle.blk_run.specs.Session.{outside};
 ghost use Rattle.blk_run.specs.Statuses.{IfWhole};
+ghost use Rattle.blk_run.specs.RunClauses.{PerformsText, of};
 
 use crate::ending::Status;
 use crate::printing::print_damage;
@@ -23,7 +21,7 @@ pub(crate) fn show_part<F: Folder, K: Sink>(
     out: &mut K,
     folder: &mut F,
 ) -> Status
-    ensures performs { (limits : Bounds) (left : Option (List ℕ)) (clock : Option Readings) → Performs (folder_text (inspect_text part.now)) result limits (Rises (F.faults folder.old) (F.faults folder.new)) ⊥ (K.faults out.old) (K.faults out.new) (outside (F.told folder.old) (K.written out.old) left clock) (outside (F.told folder.new) (K.written out.new) left clock) }
+    ensures performs { PerformsText (inspect_text part.now) result (of F.told F.faults folder.old folder.new) (of K.written K.faults out.old out.new) }
     ensures stays { Stays (F.told folder.old) (F.told folder.new) }
     ensures later { (F.faults folder.old ≤ F.faults folder.new) × GoesOn K.is K.faults out.old out.new }
     ensures handed { IfWhole result (K.waiting out.old ≡ false → K.waiting out.new ≡ false) }
@@ -34,7 +32,7 @@ pub(crate) fn show_part<F: Folder, K: Sink>(
 
 // Prints what the folder holds, and what is dropped of it.
 pub(crate) fn show_verdict<F: Folder, K: Sink>(alloc: Global, out: &mut K, folder: &mut F) -> Status
-    ensures performs { (limits : Bounds) (left : Option (List ℕ)) (clock : Option Readings) → Performs (folder_text verify_text) result limits (Rises (F.faults folder.old) (F.faults folder.new)) ⊥ (K.faults out.old) (K.faults out.new) (outside (F.told folder.old) (K.written out.old) left clock) (outside (F.told folder.new) (K.written out.new) left clock) }
+    ensures performs { PerformsText verify_text result (of F.told F.faults folder.old folder.new) (of K.written K.faults out.old out.new) }
     ensures stays { Stays (F.told folder.old) (F.told folder.new) }
     ensures later { (F.faults folder.old ≤ F.faults folder.new) × GoesOn K.is K.faults out.old out.new }
     ensures handed { IfWhole result (K.waiting out.old ≡ false → K.waiting out.new ≡ false) }

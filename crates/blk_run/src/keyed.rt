@@ -1,14 +1,13 @@
 // The subcommands that name an entry by its key.
-ghost use Rattle.std.specs.Prelude.{◌≡◌, ◌≤◌, ℕ, List, Option, IfOk, Ok, length, false};
+ghost use Rattle.std.specs.Prelude.{◌≡◌, ◌≤◌, IfOk, Ok, length, false};
 ghost use Rattle.blk_io.specs.Streams.{GoesOn};
 ghost use Rattle.percent_encoding.specs.Percent.{percent_decode};
-ghost use Rattle.spec_image.specs.Told.{Rises};
 ghost use Rattle.blk_model.specs.Bounds.{bounds_of};
 ghost use Rattle.blk_script.specs.Fields.{key_field};
 ghost use Rattle.spec_run.specs.Script.{doom_script, get_script, put_script};
-ghost use Rattle.blk_run.specs.Work.{Performs, no_input, whole_input};
-ghost use Rattle.blk_run.specs.Session.{outside};
+ghost use Rattle.blk_run.specs.Work.{whole_input};
 ghost use Rattle.blk_run.specs.Statuses.{IfWhole};
+ghost use Rattle.blk_run.specs.RunClauses.{PerformsScript, PerformsWork, of, on};
 
 use crate::ending::Status;
 use crate::fixed::Put;
@@ -30,7 +29,7 @@ pub(crate) fn get<F: Folder, K: Sink, C: Clock>(
     clock: &mut C,
 ) -> Status
     requires spelled { key_field key.now ≡ Ok (percent_decode key.now) }
-    ensures performs { (left : Option (List ℕ)) → Performs (no_input (get_script (percent_decode key.now) stream)) result (bounds_of limits) (Rises (F.faults folder.old) (F.faults folder.new)) ⊥ (K.faults out.old) (K.faults out.new) (outside (F.told folder.old) (K.written out.old) left (C.readings clock.old)) (outside (F.told folder.new) (K.written out.new) left (C.readings clock.new)) }
+    ensures performs { PerformsScript (get_script (percent_decode key.now) stream) result limits (of F.told F.faults folder.old folder.new) (of K.written K.faults out.old out.new) (on C.readings clock.old clock.new) }
     ensures later { (F.faults folder.old ≤ F.faults folder.new) × GoesOn K.is K.faults out.old out.new }
     ensures handed { IfWhole result (K.waiting out.old ≡ false → K.waiting out.new ≡ false) }
 {
@@ -62,7 +61,7 @@ pub(crate) fn doom<F: Folder, K: Sink, C: Clock>(
     clock: &mut C,
 ) -> Status
     requires spelled { key_field key.now ≡ Ok (percent_decode key.now) }
-    ensures performs { (left : Option (List ℕ)) → Performs (no_input (doom_script (percent_decode key.now))) result (bounds_of limits) (Rises (F.faults folder.old) (F.faults folder.new)) ⊥ (K.faults out.old) (K.faults out.new) (outside (F.told folder.old) (K.written out.old) left (C.readings clock.old)) (outside (F.told folder.new) (K.written out.new) left (C.readings clock.new)) }
+    ensures performs { PerformsScript (doom_script (percent_decode key.now)) result limits (of F.told F.faults folder.old folder.new) (of K.written K.faults out.old out.new) (on C.readings clock.old clock.new) }
     ensures later { (F.faults folder.old ≤ F.faults folder.new) × GoesOn K.is K.faults out.old out.new }
     ensures handed { IfWhole result (K.waiting out.old ≡ false → K.waiting out.new ≡ false) }
 {
@@ -89,7 +88,7 @@ pub(crate) fn put<F: Folder, S: Source, K: Sink, C: Clock>(
     clock: &mut C,
 ) -> Status
     requires spelled { key_field key.now ≡ Ok (percent_decode key.now) }
-    ensures performs { Performs (whole_input (put_script (percent_decode key.now) stream)) result (bounds_of limits) (Rises (F.faults folder.old) (F.faults folder.new)) (Rises (S.faults input.old) (S.faults input.new)) (K.faults out.old) (K.faults out.new) (outside (F.told folder.old) (K.written out.old) (S.left input.old) (C.readings clock.old)) (outside (F.told folder.new) (K.written out.new) (S.left input.new) (C.readings clock.new)) }
+    ensures performs { PerformsWork (whole_input (put_script (percent_decode key.now) stream)) result (bounds_of limits) (of F.told F.faults folder.old folder.new) (of S.left S.faults input.old input.new) (of K.written K.faults out.old out.new) (on C.readings clock.old clock.new) }
     ensures later { (F.faults folder.old ≤ F.faults folder.new) × ((S.faults input.old ≤ S.faults input.new) × GoesOn K.is K.faults out.old out.new) }
     ensures handed { IfWhole result (K.waiting out.old ≡ false → K.waiting out.new ≡ false) }
 {

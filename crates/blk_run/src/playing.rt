@@ -1,5 +1,5 @@
 // Lines are played on a cache.
-ghost use Rattle.std.specs.Prelude.{drop, ◌==◌, ◌≡◌, ◌-◌, true, false, ◌≤◌, ◌<◌, ◌+◌, ◌^◌, ◌++◌, ℕ, List, [], ◌∷◌, length, OnErr, OnOk, Some};
+ghost use Rattle.std.specs.Prelude.{drop, ◌==◌, ◌≡◌, ◌-◌, true, false, ◌≤◌, ◌<◌, ◌+◌, ◌^◌, ◌++◌, ℕ, List, [], ◌∷◌, length, OnErr, OnOk};
 ghost use Rattle.std.specs.Option.{ForSome, option_map};
 ghost use Rattle.std.specs.List.{position};
 ghost use Rattle.spec_image.specs.Told.{Rises};
@@ -8,15 +8,14 @@ ghost use Rattle.blk_model.specs.Request.{request_of};
 ghost use Rattle.blk_script.specs.Reply.{line_fault_text};
 ghost use Rattle.spec_run.specs.Script.{ended, line_script, session_script};
 ghost use Rattle.spec_run.specs.Run.{turns};
-ghost use Rattle.blk_run.specs.Playing.{around, cut_behind};
+ghost use Rattle.blk_run.specs.Playing.{cut_behind};
 ghost use Rattle.blk_object.specs.FailedChecks.{IsFailedCheck};
 ghost use Rattle.blk_cache.specs.Stepping.{IfDone, IfSink, IfStepDamaged, IfStepDevice};
 ghost use Rattle.blk_run.specs.Errors.{IsFlushed, IsOnlySink};
 ghost use Rattle.blk_run.specs.Pending.{HoldsLine, pending};
-ghost use Rattle.blk_run.specs.Playing.{Asks, SoFar, StandsAt, PlaysPart, has_refused, refuses};
-ghost use Rattle.blk_run.specs.Telling.{ReadsAs};
+ghost use Rattle.blk_run.specs.Playing.{refuses};
 ghost use Rattle.blk_disk.specs.Open.{IsOpen};
-ghost use Rattle.blk_cache.specs.CacheKeeping.{KeepsState};
+ghost use Rattle.blk_run.specs.RunClauses.{AsksBy, CountsWhole, From, FromLine, PlaysBy, on};
 
 use crate::line::Line;
 use blk_cache::{Cache, StepFault};
@@ -65,7 +64,7 @@ pub(crate) fn play_line<F: Folder, K: Sink, C: Clock>(
     requires is_open { ForSome (F.told folder.old).files (IsOpen cache.old.files) }
     requires buffer { 2200000 ≤ length buffer.old }
     requires few { played.old.lines < 2 ^ 64 - 1 }
-    ensures played { ReadsAs (C.readings clock.old) (C.readings clock.new) (λ early late. (bytes : List ℕ) → HoldsLine line.now bytes → (far : SoFar) (left : ℕ) → StandsAt far (KeepsState cache.old) (cache.old.notes) (left + (length bytes + 1)) (F.told folder.old) → PlaysPart result (λ state readings. turns (session_script (played.old.lines + 1) (bytes ∷ [])) state readings) far (KeepsState cache.new) (cache.new.notes) left (around (F.told folder.old) (K.written out.old) (Some early) played.old.refused) (around (F.told folder.new) (K.written out.new) (Some late) played.new.refused)) }
+    ensures played { FromLine (on F.told folder.old folder.new) (on C.readings clock.old clock.new) cache.old line.now (λ bytes. length bytes + 1) (λ bytes. PlaysBy result (λ state readings. turns (session_script (played.old.lines + 1) (bytes ∷ [])) state readings) cache.new (on K.written out.old out.new) played.old.refused played.new.refused) }
     ensures lines { played.new.lines ≡ played.old.lines + 1 }
     ensures is_open { IfDone result (ForSome (F.told folder.new).files (IsOpen cache.new.files)) }
     ensures later { F.faults folder.old ≤ F.faults folder.new }
@@ -95,7 +94,7 @@ fn play_command<F: Folder, K: Sink, C: Clock>(
     clock: &mut C,
 ) -> Result<(), StepFault>
     requires is_open { ForSome (F.told folder.old).files (IsOpen cache.old.files) }
-    ensures played { ReadsAs (C.readings clock.old) (C.readings clock.new) (λ early late. (far : SoFar) (left : ℕ) → StandsAt far (KeepsState cache.old) (cache.old.notes) (left + 2) (F.told folder.old) → PlaysPart result (λ state readings. turns (line_script played.old.lines (Ok (request_of command.now)) ended) state readings) far (KeepsState cache.new) (cache.new.notes) left (around (F.told folder.old) (K.written out.old) (Some early) played.old.refused) (around (F.told folder.new) (K.written out.new) (Some late) played.new.refused)) }
+    ensures played { From (on F.told folder.old folder.new) (on C.readings clock.old clock.new) cache.old 2 (PlaysBy result (λ state readings. turns (line_script played.old.lines (Ok (request_of command.now)) ended) state readings) cache.new (on K.written out.old out.new) played.old.refused played.new.refused) }
     ensures lines { played.new.lines ≡ played.old.lines }
     ensures is_open { IfDone result (ForSome (F.told folder.new).files (IsOpen cache.new.files)) }
     ensures later { F.faults folder.old ≤ F.faults folder.new }
@@ -131,7 +130,7 @@ pub(crate) fn ask<F: Folder, K: Sink, C: Clock>(
     clock: &mut C,
 ) -> Result<Answer, StepFault>
     requires is_open { ForSome (F.told folder.old).files (IsOpen cache.old.files) }
-    ensures asked { ReadsAs (C.readings clock.old) (C.readings clock.new) (λ early late. (far : SoFar) (left : ℕ) → StandsAt far (KeepsState cache.old) (cache.old.notes) (left + 2) (F.told folder.old) → Asks result (request_of command.now) far (KeepsState cache.new) (cache.new.notes) left (around (F.told folder.old) (K.written out.old) (Some early) false) (around (F.told folder.new) (K.written out.new) (Some late) (has_refused result))) }
+    ensures asked { From (on F.told folder.old folder.new) (on C.readings clock.old clock.new) cache.old 2 (AsksBy result command.now cache.new (on K.written out.old out.new)) }
     ensures is_open { IfDone result (ForSome (F.told folder.new).files (IsOpen cache.new.files)) }
     ensures later { F.faults folder.old ≤ F.faults folder.new }
     ensures printed_later { GoesOn K.is K.faults out.old out.new }
@@ -207,9 +206,9 @@ pub(crate) fn play_bytes<F: Folder, K: Sink, C: Clock>(
     requires is_open { ForSome (F.told folder.old).files (IsOpen cache.old.files) }
     requires buffer { 2200000 ≤ length buffer.old }
     requires few { played.old.lines + pending line.old + length bytes.now < 2 ^ 64 }
-    ensures played { ReadsAs (C.readings clock.old) (C.readings clock.new) (λ early late. (before : List ℕ) → HoldsLine line.old before → (far : SoFar) (left : ℕ) → StandsAt far (KeepsState cache.old) (cache.old.notes) (left + (length before + length bytes.now)) (F.told folder.old) → PlaysPart result (λ state readings. turns (session_script (played.old.lines + 1) (cut_behind before bytes.now).whole) state readings) far (KeepsState cache.new) (cache.new.notes) (left + length (cut_behind before bytes.now).rest) (around (F.told folder.old) (K.written out.old) (Some early) played.old.refused) (around (F.told folder.new) (K.written out.new) (Some late) played.new.refused)) }
+    ensures played { FromLine (on F.told folder.old folder.new) (on C.readings clock.old clock.new) cache.old line.old (λ before. length before + length bytes.now) (λ before far left. PlaysBy result (λ state readings. turns (session_script (played.old.lines + 1) (cut_behind before bytes.now).whole) state readings) cache.new (on K.written out.old out.new) played.old.refused played.new.refused far (left + length (cut_behind before bytes.now).rest)) }
     ensures holds { OnOk result ((before : List ℕ) → HoldsLine line.old before → HoldsLine line.new (cut_behind before bytes.now).rest) }
-    ensures counted { OnOk result ((before : List ℕ) → HoldsLine line.old before → played.new.lines ≡ played.old.lines + length (cut_behind before bytes.now).whole) }
+    ensures counted { OnOk result (CountsWhole line.old bytes.now played.old.lines played.new.lines) }
     ensures lines { OnOk result (played.new.lines + pending line.new ≤ played.old.lines + pending line.old + length bytes.now) }
     ensures is_open { IfDone result (ForSome (F.told folder.new).files (IsOpen cache.new.files)) }
     ensures later { F.faults folder.old ≤ F.faults folder.new }
