@@ -2,7 +2,7 @@
 # Without it the bytes are found. ERASE_KILLS says which places of a kill are tried of each command: a number, so many that are drawn; all, those
 # before each write, after its first word, midway and before its last; or words, those between any two words that are written. ERASE_PART=K/N tries
 # the K-th of N parts of these places alone. ERASE_SEED is what the places, the bytes, the script and some lengths are drawn from: parts with the
-# same seed are parts of the same records, as the sums that are told show.
+# same seed are parts of the same records: the sums that are told, of all of a record but the bytes, are the same.
 # Of each place it is asked that the next opening ends well, also where it is killed too (behind each third place); that no piece of what was
 # removed is in any file then, and no byte in a block that is free or behind the end of a stream or a key; that each block that is marked and each
 # external file has an owner; and that what the command leaves alone has its bytes. But for all of them, the places are replayed from a record of

@@ -15,6 +15,7 @@ use Rattle.blk_cache.specs.declared.fault.StepFault.{StepFault}
 use Rattle.blk_cache.specs.declared.fault.StepFault.TheVariants as fault
 use Rattle.blk_run.specs.Playing.{SoFar, StandsAt, Around, AreMade, AreMadeTo, AreStopped, Plays, PlaysPart, state_now, with_more}
 use Rattle.blk_run.proofs.Printed.{then_more, then_part, part_of, printed_none}
+use Rattle.spec_run.proofs.CommandStates.{state_after-append}
 use Rattle.spec_run.proofs.Replies.{no_less_longer, no_less_then, no_more_longer, no_more_then}
 use Rattle.spec_run.proofs.Turns.{commands_of-append, readings_of-append, refuse-append, text_of-append}
 use Rattle.blk_run.proofs.RunLaws.{or_assoc, or_none, read_twice}
