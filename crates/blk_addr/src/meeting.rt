@@ -25,7 +25,7 @@ fn meets_one_of(addr: Addr, others: &[Addr]) -> bool
     ensures test { result ≡ list_any (λ other. overlap (claims_of other) (claims_of addr)) others.now }
     ensures address { IsTrue (is_address addr) }
 {
-    // That the word is one of an address is known once it is read.
+    // Reading it tells the prover that the word is one of an address.
     let _word = addr.word();
     others.iter().any(|other| meet(addr, *other))
 }
@@ -34,7 +34,7 @@ fn meets_one_of(addr: Addr, others: &[Addr]) -> bool
 fn meet(addr: Addr, other: Addr) -> bool
     ensures { result ≡ overlap (claims_of other) (claims_of addr) }
 {
-    // That the words are those of addresses is known once they are read.
+    // Reading them tells the prover that the words are those of addresses.
     let _words = (addr.word(), other.word());
     match (addr.file(), other.file()) {
         (FileId::External(number), FileId::External(of_other)) => number == of_other,

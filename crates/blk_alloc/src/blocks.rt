@@ -34,7 +34,7 @@ pub(crate) fn blocks_of(addr: Addr) -> Blocks
     let FileId::Block(file) = addr.file() else {
         unreachable!();
     };
-    // That the word is one of an address is known once it is read.
+    // Reading it tells the prover that the word is one of an address.
     let _word = addr.word();
     Blocks {
         file,

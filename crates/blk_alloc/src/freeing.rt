@@ -14,7 +14,7 @@ use blk_addr::Addr;
 use blk_disk::BlockFiles;
 use blk_io::{Fault, Folder};
 
-/// Frees the blocks of an address: their marks in the map are cleared, and the counters of the file follow.
+/// Frees the blocks of an address: their marks in the map are cleared, and the counters of the file are adjusted.
 ///
 /// A failed check is a read of the file's header that gave too few bytes, or a counter that would leave its range, and
 /// nothing is written then. Where the address is one of the allocations of its file, only an opaque folder gives either.

@@ -86,7 +86,7 @@ impl Lists {
         requires kind { kind_of entry ≡ blocks_256 }
         ensures { (image : Image) → AreListsOf image self.now → result ≡ false → (node : ℕ) → shown.is_named_by image node entry ≡ false }
     {
-        // That the word is one of an address is known once it is read.
+        // Reading it tells the prover that the word is one of an address.
         let _word = entry.word();
         self.named.has(first_of_record(entry))
     }

@@ -16,7 +16,7 @@ use blk_disk::BlockFiles;
 use blk_io::{Fault, Folder};
 use blk_record::super_fast_hash;
 
-// The bytes that are compared at a time: half of the longest key.
+// How many bytes are compared at a time: half of the longest key.
 const PIECE: usize = 16_398;
 
 /// Whether an entry has this very key, and its hash.
@@ -33,11 +33,12 @@ pub fn key_equals<F: Folder>(
     requires kind { kind_of entry ≡ blocks_256 }
     requires stands { IsTrue (stands_among files.now entry) }
 
-    // The bytes where the record's words say that its key lies are the key, and so its key is.
+    // The answer is true exactly where the bytes at the place that the record's words name are the key.
     ensures bytes { IfOk result (λ same. ForSome (F.told f.old).files (λ image. IsTrue same ↔ HasBytesOf key.now entry image)) }
     ensures equal { IfOk result (λ same. ForSome (F.told f.old).files (λ image. HasReadableKey entry image → IsTrue same ↔ IsEntryOf key.now entry image)) }
 
-    // The record's checksum matches or is absent; where hash and length are the key's, the key has a place; where it is the same, its bytes are in the file.
+    // The record's checksum matches or is absent; where hash and length are the key's, the key has a place; where the key is the same, its bytes are in the
+    // file.
     ensures checked { OnOk result (ForSome (F.told f.old).files (HasRecord entry)) }
     ensures placed { OnOk result (ForSome (F.told f.old).files (λ image. (entry_at image entry).hash ≡ hash_of key.now → (entry_at image entry).key_len ≡ length key.now → HasKeyPlace files.now entry image)) }
     ensures there { IfOk result (λ same. IsTrue same → ForSome (F.told f.old).files (HasKeyBytes entry 0 (length key.now))) }
@@ -70,16 +71,16 @@ pub fn key_is<F: Folder>(
     requires kind { kind_of entry ≡ blocks_256 }
     requires stands { IsTrue (stands_among files.now entry) }
 
-    // The bytes where those words say that the key lies are the key, and so its key is where they are the record's.
+    // The answer is true exactly where the bytes at the place that those words name are the key.
     ensures bytes { IfOk result (λ same. ForSome (F.told folder.old).files (λ image. IsTrue same ↔ AreKeyBytes key.now entry head.now.key_len head.now.long_key image)) }
     ensures equal { IfOk result (λ same. ForSome (F.told folder.old).files (λ image. IsRecordHead image entry head.now → HasReadableKey entry image → IsTrue same ↔ (key_at image entry ≡ Some key.now))) }
 
-    // Where the length is the key's, the key has a place; where it is the same, its bytes are in the file.
+    // Where the length is the key's, the key has a place; where the key is the same, its bytes are in the file.
     ensures placed { OnOk result (head.now.key_len ≡ length key.now → IsPlaced files.now entry head.now.key_len head.now.long_key) }
     ensures there { IfOk result (λ same. IsTrue same → ForSome (F.told folder.old).files (HasData (key_address entry head.now.key_len head.now.long_key) (bytes_before head.now.key_len) (length key.now))) }
     ensures reads { ReadsOnly F.told F.faults folder.old folder.new (IfDevice result) }
 
-    // An observable folder reports corruption only where the record has no key to read, or the words are others.
+    // An observable folder reports corruption only where the record has no key to read, or the given words aren't the record's.
     ensures damaged { IfDamaged result (IsPlaceDamage files.now (F.told folder.old) entry (length key.now) head.now.long_key) }
     ensures untold { ForSome (F.told folder.old).files (CanBeRead files.now entry) → ForSome (F.told folder.old).files (λ image. IsRecordHead image entry head.now) → IfDamaged result (λ _. (F.told folder.old).files ≡ None) }
 {

@@ -59,7 +59,7 @@ fn set_dirty_word<F: Folder>(
     ensures later { F.faults folder.old ≤ F.faults folder.new }
     ensures device { IfDevice result (Rises (F.faults folder.old) (F.faults folder.new)) }
 {
-    // That the word is one of an address is known once it is read.
+    // Reading it tells the prover that the word is one of an address.
     let _word = node.word();
     files.update_sealed(folder, node, &[(NodeView::DIRTY, mark)])
 }

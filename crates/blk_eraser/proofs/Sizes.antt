@@ -1,4 +1,4 @@
--- The blocks of a linked file of a folder with sound headers have the bytes of its kind.
+-- The blocks of a linked file of a folder with valid headers have the bytes of its kind.
 use Rattle.std.proofs.Common.{◌≡◌, ℕ, zero, suc, List, [], ◌∷◌, ◌++◌, Bool, true, false, if◌then◌else◌, Option, None, Some, refl, subst, ⊎_elim}
 use Rattle.std.specs.Prelude.{◌==◌}
 use Rattle.std.proofs.lemmas.Bool.{eqb-true, or_cases}

@@ -58,11 +58,11 @@ CutsChangeOneFile = (image : Image) (file : File) (size : ℕ) → has_file imag
 abbrev pub EachFreed : (ℕ → Type 0) → Image → ℕ → ℕ → List ℕ → Type 0
 EachFreed P image n place new = (b : ℕ) → b < most_blocks → frees (bytes_of image (Block n)) place new b ≡ true → P b
 
--- the folder is well formed, and its view has the state by the layout
+-- the folder is well formed, and its view represents the state by the layout
 abbrev pub ShowsWhole : State → Layout → Image → Type 0
 ShowsWhole state layout image = IsWellFormed image × Represents (view_of image) state layout
 
--- while zeros are written over blocks that have no owner in the layout, the view has the state by it
+-- while zeros are written over blocks that have no owner in the layout, the view represents the state by it
 abbrev pub UnownedBlocksMayBeErased : Type 0
 UnownedBlocksMayBeErased = (state : State) (layout : Layout) (image : Image) (n place : ℕ) (new : List ℕ) → ShowsWhole state layout image
     → EachFreed (λ b. layout.owner (BlockOf n b) ≡ None) image n place new

@@ -26,7 +26,7 @@ pub struct Eraser<F> {
 impl<F: Folder> Eraser<F> {
     ghost use Rattle.blk_eraser.specs.Eraser.{folder_of};
 
-    /// Passes on to this folder.
+    /// An eraser over this folder.
     pub fn new(inner: F) -> Eraser<F>
         ensures { folder_of result ≡ inner }
     {

@@ -14,7 +14,7 @@ ghost use Rattle.blk_eraser.specs.Erasing.{IsBlockFile, frees, zeros_before_writ
 use blk_io::{Failed, FileId, Folder, read_exact};
 use blk_record::BlockHead;
 
-/// The bytes of a header with its map.
+/// How many bytes a header with its map has.
 pub(crate) const HEADER_LEN: usize = 8192;
 
 /// The place of the map in a header.
@@ -45,7 +45,7 @@ pub(crate) fn is_freed(header: &[u8], at: usize, bytes: &[u8], block: usize) -> 
     has_bit(header[place], bit) && !has_bit(bytes[place - at], bit)
 }
 
-/// The bytes of a block, by a header; 0 in one that isn't written yet.
+/// How many bytes a block has, by a header; 0 in one that isn't written yet.
 pub(crate) fn block_size(header: &[u8]) -> u64
     requires { length header.now ≡ header_size }
     ensures size { result ≡ entry_size_of (content header.now) }

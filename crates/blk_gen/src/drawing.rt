@@ -9,7 +9,7 @@ const FACTOR: u64 = 6_364_136_223_846_793_005;
 
 const MORE: u64 = 1_442_695_040_888_963_407;
 
-// The lower bits of a value, which a draw leaves out.
+// How many lower bits of a value a draw leaves out.
 const LEFT_OUT: u32 = 33;
 
 /// A sequence of draws, by the value that it has come to.

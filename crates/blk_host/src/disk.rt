@@ -123,7 +123,7 @@ impl OpenFiles {
         }
     }
 
-    // The place of a file, with nothing where it is not open. The place of an external file closes another one.
+    // The slot of a file, empty where it is not open. Asking for another external file's slot closes the one that is open.
     fn place(&mut self, file: FileId) -> &mut Option<OpenFile> {
         match file {
             FileId::Index => &mut self.index,
@@ -145,7 +145,7 @@ pub struct Disk<R: Files<File = File> + Drop> {
     rt: R,
     alloc: Global,
     open: OpenFiles,
-    // The lock goes after the open files.
+    // The lock is released after the open files are closed.
     held: Held,
 }
 

@@ -57,10 +57,10 @@ impl error::Error for NotHeld {}
 /// The folder that the program works in, locked until this value is dropped. All names of files are relative to it.
 ///
 /// The fields are private and `take` alone makes one, so who has a `Held` has asked for the lock and was not refused.
-/// A program takes one folder: a second one moves it there, and the names of the first are looked for in the second.
+/// A program takes one folder: a second one changes the working directory, and the names of the first are looked for in the second.
 #[derive(Drop)]
 pub struct Held {
-    // The folder, opened. The lock is on it and goes with it.
+    // The folder, opened. The lock is on it and is released with it.
     folder: File,
     access: Access,
     // The number of the folder's device.
@@ -68,9 +68,9 @@ pub struct Held {
 }
 
 impl Held {
-    /// Goes into the folder at a path and locks it. The lock is advisory: it holds off programs that ask for it.
+    /// Changes the working directory to the folder at a path, and locks it. The lock is advisory: it holds off programs that ask for it.
     ///
-    /// Where another program has the folder it is tried again every 50 ms until so much time is gone. A folder on a file
+    /// Where another program has the folder it is tried again every 50 ms until that time has passed. A folder on a file
     /// system without locks is acquired without one.
     ///
     /// # Errors
@@ -112,7 +112,7 @@ impl Held {
     }
 }
 
-// Locks the folder. While another program has it, it is tried again until so much time is gone.
+// Locks the folder. While another program has it, it is tried again until that time has passed.
 fn lock_within<R: Clock>(
     rt: &R,
     folder: &File,
@@ -125,7 +125,7 @@ fn lock_within<R: Clock>(
     }
 }
 
-// Tries again and again to lock the folder, until so much time is gone.
+// Tries again and again to lock the folder, until that time has passed.
 fn wait_for<R: Clock>(
     rt: &R,
     folder: &File,
@@ -147,7 +147,7 @@ fn wait_for<R: Clock>(
     Err(NotHeld::Elsewhere)
 }
 
-// Tries once to lock the folder. Where its file system has no locks there is nothing to be had, and it is an Ok.
+// Tries once to lock the folder. Where its file system has no locks none is taken, and the answer is an Ok.
 fn lock(folder: &File, access: Access) -> Result<(), NotHeld> {
     let answer = match access {
         Access::Alone => folder.try_lock(),

@@ -17,7 +17,7 @@ use byteorder::{ByteOrder, LittleEndian};
 /// The most buckets that one call of [`buckets`] reads.
 pub const BUCKETS_OF_PIECE: usize = 16_384;
 
-// The bytes of their words.
+// How many bytes their words have.
 const PIECE: usize = 65_536;
 
 /// Reads the word of the header at a place in bytes.

@@ -85,7 +85,7 @@ pub(crate) fn pending_of(node: Addr, operation: &Operation) -> Plan
     plan
 }
 
-// The end of a transaction alone.
+// The one write that ends a transaction.
 pub(crate) fn ending() -> Plan
     ensures { map meant result.items ≡ list.Transaction 0 ∷ [] }
 {

@@ -6,13 +6,13 @@ ghost use Rattle.blk_object.specs.KeptEntries.{NewEntriesChangeTheirOwn, Writing
 ghost use Rattle.blk_object.specs.KeptChains.{KeptRecordsCanBeUnlinked, UnlinkedRecordsAreOut, UnlinkedRecordsLeaveFiles, UnlinkingsChangeLinks};
 ghost use Rattle.blk_object.specs.KeptBlocks.{AllocationsAdd, AllocationsStayWhole, FreesRemove, FreesStayWhole, KeptFilesAreCounted, WholeFoldersFindTheSame};
 
-/// While block files grow at most and a well-formed folder is well formed, as in an allocation and a free, recovery gives the durable contents of the state
+/// While block files at most grow and a well-formed folder is well formed, as in an allocation and a free, recovery gives the durable contents of the state
 /// that was kept, whatever is unlinked.
 pub fn whole_folders_find_the_same()
     ensures { WholeFoldersFindTheSame }
 {}
 
-/// After each write of a free block files have grown at most and a well-formed folder is well formed; when it is done, the address is an allocation no longer.
+/// After each write of a free block files have at most grown and a well-formed folder is well formed; when it is done, the address is an allocation no longer.
 pub fn freed_blocks_are_gone()
     ensures whole { FreesStayWhole }
     ensures removed { FreesRemove }

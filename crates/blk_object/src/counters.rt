@@ -160,7 +160,7 @@ fn set_bytes<F: Folder>(folder: &mut F, files: &BlockFiles, bytes: u64) -> Resul
     ensures is_open { ForSome (F.told folder.new).files (IsOpen files.now) }
     ensures writes { MayWrite F.told F.faults folder.old folder.new (OnErr result) }
 {
-    // The block files are asked for by the contract alone: what they say of the folder is known once they are named.
+    // Only the contract needs the block files: naming them tells the prover what they say of the folder.
     let _files = files;
     let low = low_word(bytes);
     let high = high_word(bytes);
@@ -189,7 +189,7 @@ fn set_counters<F: Folder>(
     ensures is_open { ForSome (F.told folder.new).files (IsOpen files.now) }
     ensures writes { MayWrite F.told F.faults folder.old folder.new (OnErr result) }
 {
-    // The block files are asked for by the contract alone: what they say of the folder is known once they are named.
+    // Only the contract needs the block files: naming them tells the prover what they say of the folder.
     let _files = files;
     let low = low_word(bytes);
     let high = high_word(bytes);

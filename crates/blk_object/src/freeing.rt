@@ -105,7 +105,7 @@ fn delete_file<F: Folder>(folder: &mut F, files: &BlockFiles, place: Addr) -> Re
     ensures is_open { ForSome (F.told folder.new).files (IsOpen files.now) }
     ensures writes { MayWrite F.told F.faults folder.old folder.new (OnErr result) }
 {
-    // The block files are asked for by the contract alone: what they say of the folder is known once they are named.
+    // Only the contract needs the block files: naming them tells the prover what they say of the folder.
     let _files = files;
     delete(folder, place)
 }

@@ -24,7 +24,7 @@ use blk_io::{Fault, Folder};
 use blk_lru::insert_front;
 use blk_record::{IndexHead, super_fast_hash};
 
-/// After the evictions of a Create that isn't refused, the state may have its object, if it has fewer items than a cache may have.
+/// After the evictions of a Create that isn't refused, there is space for the object in the state, if it has fewer items than a cache may have.
 pub fn creates_can_have_new()
     ensures { CreatesCanHaveNew }
 {}

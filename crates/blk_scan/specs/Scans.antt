@@ -58,12 +58,12 @@ abbrev pub AreChainsTold : Image → Option KeptChains → Type 0
 AreChainsTold image None = AreChainsWhole image
 AreChainsTold image (Some chains) = AreKeptChains image chains.records.items chains.ends.items chains.whole.items
 
--- the words are nodes and records of kept entries, and the checksums of all others of these match
+-- the words are nodes and records of kept entries, and the checksums of all other nodes and records of kept entries match
 pub record AreBare (image : Image) (words : List ℕ) : Type 0 where
   pub are_kept : All (IsOfKept image) words
   pub others : AreOthersSealed image words image
 
--- the scan reports what an image holds: the walk, what is kept and dropped, what that owns and costs, the chains, and the absent checksums
+-- the scan reports what an image holds: the walk, what is kept and dropped, what the kept entries use and cost, the chains, and the absent checksums
 pub record IsScanOf (image : Image) (scan : Scan) : Type 0 where
   pub walked : scan.walked.items ≡ completed_walk image
   pub kept_told : scan.kept.items ≡ map kept_as_told (kept image)

@@ -37,14 +37,14 @@ impl KeptChains {
         &self.records
     }
 
-    /// Where the records of each of the 65536 buckets end among them; they begin where those of the bucket before end.
+    /// Where the records of each of the 65536 buckets end among `records`; they begin where those of the bucket before end.
     pub fn ends(&self) -> &[u32]
         ensures { result.now ≡ self.now.ends.items }
     {
         &self.ends
     }
 
-    /// Whether a bucket is the chain of its kept records already, for each of the 65536 buckets.
+    /// Whether the chain of the bucket has exactly its kept records already, for each of the 65536 buckets.
     pub fn whole(&self) -> &[bool]
         ensures { result.now ≡ self.now.whole.items }
     {

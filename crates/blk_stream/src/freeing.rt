@@ -52,7 +52,7 @@ fn delete_file<F: Folder>(folder: &mut F, files: &BlockFiles, addr: Addr) -> Res
     ensures agrees { ForSome (F.told folder.new).files (Agrees files.now) }
     ensures writes { MayWrite F.told F.faults folder.old folder.new (OnErr result) }
 {
-    // The block files are asked for by the contract alone: what they say of the folder is known once they are named.
+    // Only the contract needs the block files: naming them tells the prover what they say of the folder.
     let _files = files;
     blk_external::delete(folder, addr)
 }

@@ -21,7 +21,8 @@ use blk_io::{Failed, Folder};
 // The most bytes of data in blocks.
 const MOST_IN_BLOCKS: usize = 16384;
 
-// Writes bytes of a stream from an offset on, which gets a new size in the same place: the bytes, and then the size in the record, whose bytes were read.
+// Writes bytes of a stream from an offset on; the stream stays in its place and gets a new size: the bytes, and then the size in the record, whose bytes were
+// read.
 pub(crate) fn write_inside<F: Folder>(
     folder: &mut F,
     files: &BlockFiles,
@@ -56,7 +57,7 @@ pub(crate) fn write_inside<F: Folder>(
     write_size(folder, files, entry, stream, record_bytes, old, size)
 }
 
-// Writes bytes of data from an offset on, which gets a new size in the same place: zeros before them, where they begin past the old end.
+// Writes bytes of data from an offset on; the data stay in their place and get a new size: zeros before them, where they begin past the old end.
 fn write_here<F: Folder>(
     folder: &mut F,
     files: &BlockFiles,
@@ -145,7 +146,7 @@ fn set_size<F: Folder>(
     ensures later { F.faults folder.old ≤ F.faults folder.new }
     ensures failed { OnErr result (Rises (F.faults folder.old) (F.faults folder.new)) }
 {
-    // The block files are asked for by the contract alone: what they say of the folder is known once they are named.
+    // Only the contract needs the block files: naming them tells the prover what they say of the folder.
     let _files = files;
     if size == old {
         return Ok(());

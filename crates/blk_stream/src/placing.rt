@@ -41,7 +41,7 @@ pub(crate) fn new_place<F: Folder>(
     let kind = kind_for(size);
     if is_external(kind) {
         let addr = blk_external::create(folder)?;
-        // That the word is one of an address is known once it is read.
+        // Reading it tells the prover that the word is one of an address.
         let _word = addr.word();
         return Ok(addr);
     }

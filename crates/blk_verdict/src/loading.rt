@@ -104,7 +104,7 @@ pub(crate) fn load_words<F: Folder>(
     ensures short { IfDamaged result (IsCutRead files.now (F.told folder.old)) }
     ensures untold { ForSome (F.told folder.old).files (Agrees files.now) → IfDamaged result (λ _. (F.told folder.old).files ≡ None) }
 {
-    // That the word is one of an address is known once it is read.
+    // Reading it tells the prover that the word is one of an address.
     let _word = entry.word();
     match reason_by_words(node.addr, entry, node.dirty, &said.words) {
         Some(reason) => Ok(Verdict::Dropped(reason)),

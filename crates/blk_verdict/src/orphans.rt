@@ -16,7 +16,7 @@ use blk_ranges::{KEY_OF_NAME, read_child_name};
 use blk_record::super_fast_hash;
 
 impl KeptSoFar {
-    // Whether a record is a part, whose key this is, and no kept record is its parent with its bit.
+    // Whether a record is a part, whose key this is, and no kept record is its parent with the part's bit.
     pub(crate) fn is_orphan<F: Folder>(
         &self,
         folder: &mut F,
@@ -37,7 +37,7 @@ impl KeptSoFar {
         }
     }
 
-    // Whether no kept record is the parent of a part with this key, with its bit.
+    // Whether no kept record is the parent of a part with this key, with the part's bit.
     fn lacks_parent<F: Folder>(
         &self,
         folder: &mut F,

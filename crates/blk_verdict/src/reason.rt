@@ -2,7 +2,7 @@
 ghost use Rattle.std.specs.Prelude.{◌≡◌};
 ghost use Rattle.blk_verdict.specs.Reasons.{reason_number};
 
-/// Why a node is dropped, and at last why a record is; the first reason that holds counts.
+/// Why a node is dropped and, for the last of them, why a record is; the first reason that holds counts.
 #[derive(Clone, Copy, Debug, PartialEq, Eq)]
 pub enum Reason {
     /// The node names no record that is there.

@@ -36,8 +36,8 @@ pub enum Role {
     Part(ChildName),
 }
 
-// What a record with three streams is, if its index is right; a parent or a part takes one folder call. Of a part
-// this is the key; no other key is looked at.
+// What a record with three streams is, if its index is right; a parent or a part takes one folder call. `key` is
+// the key of a part's record; otherwise it isn't read.
 pub(crate) fn read_role<F: Folder>(
     folder: &mut F,
     files: &BlockFiles,
@@ -95,7 +95,7 @@ fn parent_with(head: ParentHead, key_len: u32) -> Option<Role>
     }
 }
 
-// A part, where its key is a name, and its index goes with the name and its data.
+// A part, where its key is a name, and its index fits the name and its data.
 fn part_role<F: Folder>(
     folder: &mut F,
     files: &BlockFiles,
@@ -123,7 +123,7 @@ fn part_role<F: Folder>(
     }
 }
 
-// A part of this name, where its map goes with the name and so many bytes of data.
+// A part of this name, where its map fits the name and data of this size.
 fn part_with(map: &PartMap, name: ChildName, size: u32) -> Option<Role>
     ensures { result ≡ part_if_covered map.now name size }
 {

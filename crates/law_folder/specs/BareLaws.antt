@@ -55,7 +55,7 @@ FoldersWithoutEntriesHoldNothing = (image : Image) → HasNoEntries image → fo
 abbrev pub FoldersWithoutEntriesAreSound : Type 0
 FoldersWithoutEntriesAreSound = (image : Image) → HasNoEntries image → IsWellFormed image → IsSound image
 
--- the view of an empty cache has the empty state, by the layout of no objects
+-- the view of an empty cache represents the empty state, by the layout of no objects
 abbrev pub FoldersWithoutEntriesRepresentTheEmptyState : Type 0
 FoldersWithoutEntriesRepresentTheEmptyState = (image : Image) (limits : Bounds) → HasNoEntries image → Represents (view_of image) (open_state [] limits) no_layout
 
@@ -71,7 +71,7 @@ NewFoldersHaveNoEntries = (moment : ℕ) (image : Image) → IsMade moment image
 abbrev pub NewFoldersAreWellFormed : Type 0
 NewFoldersAreWellFormed = (moment : ℕ) (image : Image) → IsMade moment image → IsWellFormed image
 
--- a write of a word of the index's header that is neither shown nor counted and that sound headers don't need, as the magic word, the number of the session
+-- a write of a word of the index's header that is neither shown nor counted and that valid headers don't need, as the magic word, the number of the session
 -- and the crash word, leaves an empty cache one
 abbrev pub OtherWordsAddNoEntries : Type 0
 OtherWordsAddNoEntries = (from image : Image) (at : ℕ) → at % 4 ≡ 0 → at < header_length → is_among shown_words at ≡ false → is_among counted_places at ≡ false → is_among sound_words at ≡ false

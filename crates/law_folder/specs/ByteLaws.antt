@@ -39,7 +39,7 @@ SameLinksLinkTheSame = (old new : Image) → ((n : ℕ) → next_file_in new n �
 abbrev pub LongerFilesHaveGrown : Type 0
 LongerFilesHaveGrown = (image : Image) (m length : ℕ) → length_of image (Block m) ≤ length → HaveGrown image (applied (SetLength (Block m) length) image)
 
--- a change inside a footprint of bytes leaves an image that agrees but for the blocks and external numbers that cover the footprint
+-- a change inside a footprint of bytes leaves an image that agrees but for the blocks and external numbers that contain the footprint
 abbrev pub CoveredChangesAgree : Type 0
 CoveredChangesAgree = (old new : Image) (footprint : Footprint) (touched : Claim → Bool) → SameOutside footprint old new → Covers old footprint touched → AgreeBut touched old new
 
@@ -57,7 +57,7 @@ abbrev pub GrowthKeepsStates : Type 0
 GrowthKeepsStates = (old new : Image) (state : State) (layout : Layout) (doomed_nodes : List ℕ) → HaveGrown old new → Represents (view_of old) state layout
     → ((claim : Claim) (node : ℕ) → layout.owner claim ≡ Some node → IsOwner state layout doomed_nodes claim node) → Represents (view_of new) state layout
 
--- a change of bytes changes what is shown only inside the blocks and external numbers that cover it
+-- a change of bytes changes what is shown only inside the blocks and external numbers that contain it
 abbrev pub CoveredChangesStayInside : Type 0
 CoveredChangesStayInside = (old new : Image) (footprint : Footprint) (touched : Claim → Bool) → SameOutside footprint old new → Covers old footprint touched → SameBut touched (view_of old) (view_of new)
 
@@ -69,27 +69,27 @@ BlocksAreCovered = (image : Image) (w : ℕ) → stands_in image w ≡ true → 
 abbrev pub ExternalFilesAreCovered : Type 0
 ExternalFilesAreCovered = (image : Image) (n : ℕ) → Covers image (whole (External n)) (λ claim. same_claim claim (ExternalOf n))
 
--- the bytes of a block file's header need no cover, but for next_file and max_entries
+-- the bytes of a block file's header need not be contained in a footprint, but for next_file and max_entries
 abbrev pub HeadersNeedNoCover : Type 0
 HeadersNeedNoCover = (image : Image) (n at length : ℕ) → at + length ≤ header_size → (at + length ≤ 10) ⊎ ((12 ≤ at) × (at + length ≤ 20)) ⊎ (24 ≤ at) → Covers image (range (Block n) at length) (λ claim. false)
 
--- the bytes of the index at places that aren't shown need no cover
+-- the bytes of the index at places that aren't shown need not be contained in a footprint
 abbrev pub HiddenWordsNeedNoCover : Type 0
 HiddenWordsNeedNoCover = (image : Image) (at length : ℕ) → ((i : ℕ) → at ≤ i → i < at + length → is_shown_place i ≡ false) → Covers image (range Index at length) (λ claim. false)
 
--- what covers a footprint of bytes covers a smaller one
+-- what contains a footprint of bytes contains a smaller one
 abbrev pub CoversOfLess : Type 0
 CoversOfLess = (image : Image) (less more : Footprint) (touched : Claim → Bool) → IsWithin less more → Covers image more touched → Covers image less touched
 
--- a footprint of bytes that some blocks and external numbers cover is covered by more of them
+-- a footprint of bytes that some blocks and external numbers contain is contained in more of them
 abbrev pub MoreCovers : Type 0
 MoreCovers = (image : Image) (footprint : Footprint) (less more : Claim → Bool) → ((claim : Claim) → less claim ≡ true → more claim ≡ true) → Covers image footprint less → Covers image footprint more
 
--- two footprints are covered by what covers each
+-- two footprints are contained in what contains each
 abbrev pub CoversOfEither : Type 0
 CoversOfEither = (image : Image) (one other : Footprint) (touched : Claim → Bool) → Covers image one touched → Covers image other touched → Covers image (either one other) touched
 
--- Headers, and files that go.
+-- Headers, and files that are deleted.
 
 -- a change of lengths, maps, counters and updating of block files: it spares the shown index, next_file and max_entries, all bytes after the headers, and
 -- external files

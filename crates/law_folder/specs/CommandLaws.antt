@@ -133,7 +133,7 @@ abbrev pub DoomedChangesAreAtRest : Type 0
 DoomedChangesAreAtRest = (touched : Claim → Bool) (old new : View) (state : State) (layout : Layout) → Represents old state layout → IsValidState state → (number : ℕ) (object : Object) → object_at state number ≡ Some object → object.live ≡ false
     → SameBut touched old new → IsFreeBut (layout.place_of_doomed number) touched layout → map row_of_loaded (kept_by held_rule (completed new)) ≡ rest state
 
--- once a doomed object is gone from its node, the state without it is represented
+-- once a doomed object is removed from its node, the state without it is represented
 abbrev pub GoneDoomedObjectsAreRepresented : Type 0
 GoneDoomedObjectsAreRepresented = (touched : Claim → Bool) (old new : View) (state : State) (layout : Layout) → Represents old state layout → (number : ℕ) (object : Object) (was : Loaded) (owner : Claim → Option ℕ) → IsPlacedAsDoomed state layout number object was
     → SameBut touched old new → IsFreeBut (layout.place_of_doomed number) touched layout → ((claim : Claim) (node : ℕ) → layout.owner claim ≡ Some node → (layout.place_of_doomed number == node) ≡ false → owner claim ≡ Some node)
@@ -153,7 +153,7 @@ WrittenDoomedDirtyWordsSettle = (old new : View) (state : State) (layout : Layou
     → ((node_fields : NodeFields) → old.store.node_fields (layout.place_of_doomed number) ≡ Some node_fields → new.store.node_fields (layout.place_of_doomed number) ≡ Some (record node_fields { dirty = dirty }))
     → Represents new (marked state number object (dirty == 0)) (dirtied layout (layout.place_of_doomed number) loaded dirty)
 
--- Records that stay while others change or go.
+-- Records that stay while others change or are removed.
 
 -- a view that represents a state has it but for any nodes that are left out
 abbrev pub RepresentedHoldExcept : Type 0

@@ -53,7 +53,7 @@ abbrev pub BucketsAreWritten : Type 0
 BucketsAreWritten = (from image : Image) (bucket x : ℕ) → IsIndexWord (place_of_bucket bucket) x from image
     → (list_of image ≡ list_of from) × (store_of image ≡ record (store_of from) { table = put (store_of from).table bucket x })
 
--- the places of the index's words that sound headers need: all that a check reads but the magic word
+-- the places of the index's words that valid headers need: all that a check reads but the magic word
 abbrev pub sound_words : List ℕ
 sound_words = 4 ∷ 24 ∷ 28 ∷ 36 ∷ zero_places
 
@@ -65,8 +65,8 @@ checked_words = 0 ∷ sound_words
 abbrev pub OtherWordsAreNotChecked : Type 0
 OtherWordsAreNotChecked = (from image : Image) (at : ℕ) → at % 4 ≡ 0 → is_among checked_words at ≡ false → SameOutside (one_word Index at) from image → KeepsHeaders from image
 
--- the write of a word of the index's header that is not shown and that sound headers don't need, as the magic word, the number of the session and the crash
--- word, leaves sound headers sound, and what recovery keeps
+-- the write of a word of the index's header that is not shown and that valid headers don't need, as the magic word, the number of the session and the crash
+-- word, leaves valid headers valid, and what recovery keeps
 abbrev pub SoundHeadersStaySound : Type 0
 SoundHeadersStaySound = (from image : Image) (at : ℕ) → at % 4 ≡ 0 → at < header_length → is_among shown_words at ≡ false → is_among sound_words at ≡ false
     → SameOutside (one_word Index at) from image → (HasSoundHeaders from → HasSoundHeaders image) × (kept image ≡ kept from)

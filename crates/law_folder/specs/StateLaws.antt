@@ -59,17 +59,17 @@ abbrev pub RepresentedStatesAreShown : Type 0
 RepresentedStatesAreShown = (image : Image) (state : State) (layout : Layout) (numbers : List ℕ) → Represents (view_of image) state layout → IsValidState state → AllIsOwned image state layout numbers → ShowsState (view_of image) state
 
 -- an image represents a state where its view does, it is well formed, its index has the version that is made now, its maps are exact, and its files, counters
--- and checksums are in order
+-- and checksums agree with what it keeps
 abbrev pub RepresentedStatesAreStoodFor : Type 0
 RepresentedStatesAreStoodFor = (image : Image) (state : State) (layout : Layout) (numbers : List ℕ) → Represents (view_of image) state layout → IsValidState state → AllIsOwned image state layout numbers → IsWellFormed image → version_of (byte image Index) ≡ index_version
     → IsInOrder image (kept_by listed_rule (view_of image)) (map (λ d. d.1) (doomed_of layout numbers)) → StandsFor image state
 
--- files, counters and checksums that are in order by a layout are in order for what is listed and doomed
+-- files, counters and checksums that agree with what lies at the nodes of a layout agree with what is listed and doomed
 abbrev pub TidyIsInOrder : Type 0
 TidyIsInOrder = (image : Image) (state : State) (layout : Layout) (numbers : List ℕ) → Represents (view_of image) state layout → IsValidState state → IsTidy image state layout numbers
     → IsInOrder image (kept_by listed_rule (view_of image)) (map (λ d. d.1) (doomed_of layout numbers))
 
--- a tidy image with exact maps, whose view represents a state, represents it
+-- an image with exact maps, whose view represents a state and whose files, counters and checksums agree with the layout, represents it
 abbrev pub TidyStatesAreStoodFor : Type 0
 TidyStatesAreStoodFor = (image : Image) (state : State) (layout : Layout) (numbers : List ℕ) → Represents (view_of image) state layout → IsValidState state → AllIsOwned image state layout numbers → IsWellFormed image → IsTidy image state layout numbers → StandsFor image state
 

@@ -16,7 +16,7 @@ use Rattle.spec_folder.specs.Tidy.{HasState, IsBehindHeaders, FilesStand}
 abbrev pub FilesStandBehindHeaders : Type 0
 FilesStandBehindHeaders = (footprint : Footprint) (from image : Image) → IsBehindHeaders footprint → SameOutside footprint from image → HasSoundHeaders from → FilesStand from image
 
--- an image that has a state by a layout represents it
+-- an image that represents a state by a layout, its files too, stands for it
 abbrev pub StatesAreStoodFor : Type 0
 StatesAreStoodFor = (image : Image) (state : State) (layout : Layout) (numbers : List ℕ) → HasState state layout numbers image → StandsFor image state
 

@@ -30,7 +30,7 @@ pub fn dirty_words_settle()
 {}
 
 /// While a doomed object changes inside its node's footprint, recovery keeps the durable contents, also where its record is torn. In the end the view
-/// represents the state with its new value, or without it once it is gone; with another dirty flag the object is clean if that is 0, and else dirty.
+/// represents the state with its new value, or without it once it is freed; with another dirty flag the object is clean if that is 0, and else dirty.
 pub fn doomed_objects_change()
     ensures laid { ChangedDoomedObjectsArePlaced }
     ensures represented { ChangedDoomedObjectsAreRepresented }
@@ -40,8 +40,9 @@ pub fn doomed_objects_change()
     ensures written { WrittenDoomedDirtyWordsSettle }
 {}
 
-/// While some nodes are left out, in the midst of a change or gone, the other nodes load as before. So they do through changes that touch neither their blocks
-/// nor a record of a chain, and through changes of chain links and of table words. A record of which only the state is written loads as one of that state.
+/// While some nodes are left out, in the midst of a change or removed, the other nodes load as before. So they do through changes that touch neither their
+/// blocks nor a record of a chain, and through changes of chain links and of table words. A record of which only the state is written loads as one of that
+/// state.
 pub fn others_hold_meanwhile()
     ensures begin { RepresentedHoldExcept }
     ensures more { MoreMayBeLeftOut }
@@ -65,8 +66,8 @@ pub fn dooms_keep_the_others()
     ensures represented { DoomedIsRepresented }
 {}
 
-/// The durable contents before an object is made clean or dirty, and those after it, are two values of what survives a crash in that (`pick`): with the objects
-/// in transition where the object is clean, and without them where it is dirty.
+/// The durable contents before and after an object becomes clean or dirty are two values of `pick`: objects in transition are in where the object is clean, and
+/// out where it is dirty.
 pub fn turning_objects_are_picked()
     ensures before { RestBeforeTurning }
     ensures after { RestAfterTurning }

@@ -84,7 +84,8 @@ pub fn chains_are_linked()
 {}
 
 /// The kept records of a walk load, share no block, no external number and no name, and have their parents, so a walk of the kept nodes alone keeps the same.
-/// Records that are given for a walk's nodes as `IsShown` says are those that it keeps, and where each node has one, none is dropped.
+/// Where records are given for nodes of a walk, and each of them loads, is apart from the others and has its parent (`IsShown`), the walk keeps exactly these;
+/// where each node has one, none is dropped.
 pub fn given_nodes_are_kept()
     ensures kept { KeptAreTheGiven }
     ensures dropped { NoneOfTheGivenIsDropped }
@@ -102,7 +103,8 @@ pub fn one_key_is_in_one_chain()
     ensures { SameKeyIsOneChain }
 {}
 
-/// Two well-formed images with the same candidates, which agree on what these name, have the same recovered contents, since no node but a candidate is kept.
+/// Two well-formed images with the same nodes that may be kept (`candidates`), which agree on what these name, have the same recovered contents, since no other
+/// node is kept.
 pub fn same_candidates_hold_the_same()
     ensures only { OnlyCandidatesAreKept }
     ensures held { SameCandidatesAreHeldAlike }
@@ -122,8 +124,8 @@ pub fn represented_states_are_found()
 {}
 
 /// A well-formed image of the version that is made now represents a state with all its files (`StandsFor`) where its view represents the state, its maps are
-/// exact, and its files, counters and checksums are in order. Those of a tidy image are in order. The durable contents of the state are recovered from such an
-/// image.
+/// exact, and its files, counters and checksums agree with what it keeps (`IsInOrder`). They do where they agree with what lies at the layout's nodes
+/// (`IsTidy`). The durable contents of the state are recovered from such an image.
 pub fn represented_states_are_stood_for()
     ensures shown { RepresentedStatesAreShown }
     ensures in_order { TidyIsInOrder }
@@ -203,8 +205,9 @@ pub fn creates_at_each_write()
     ensures stops { CreatesMayLeaveWhatWas }
 {}
 
-/// A change of bytes changes what is shown only inside the blocks and external numbers that cover these bytes. The bytes of blocks are covered by these, and an
-/// external file by its number; the header of a block file, but for next_file and max_entries, and places of the index that aren't shown need no cover.
+/// A change of bytes changes what is shown only inside the blocks and external numbers that contain these bytes. The bytes of blocks are contained in these,
+/// and an external file in its number; the header of a block file, but for next_file and max_entries, and places of the index that aren't shown need not be
+/// contained.
 pub fn covered_changes_stay_inside()
     ensures shown { CoveredChangesStayInside }
     ensures blocks { BlocksAreCovered }
@@ -223,7 +226,7 @@ pub fn linked_files_are_allocated()
     ensures stood { StoodForFilesAreAllocated }
 {}
 
-/// Two images that agree outside a footprint of blocks and external files show the same outside it. A change of bytes that the footprint covers leaves such
+/// Two images that agree outside a footprint of blocks and external files show the same outside it. A change of bytes that the footprint contains leaves such
 /// images; the growth of block files touches only blocks past those that they had; and with the same next_file in each block file the same files are linked.
 pub fn agreeing_images_show_the_same()
     ensures last { BlocksStandByTheirLast }
@@ -256,8 +259,8 @@ pub fn charges_are_the_totals()
     ensures opened { OpenedChargesAreTheTotals }
 {}
 
-/// An image that has a state by a layout represents it, and after the access of a listed item it has the state with that item in front. A change that is after
-/// the headers leaves the files of a well-formed folder as they are.
+/// An image that represents a state by a layout, its files too (`HasState`), stands for it, and after the access of a listed item it represents the state with
+/// that item in front so. A change that is after the headers leaves the files of a well-formed folder as they are.
 pub fn states_are_had()
     ensures files { FilesStandBehindHeaders }
     ensures stands { StatesAreStoodFor }

@@ -229,7 +229,7 @@ holds-mid from image holds = record { well_formed = holds.well_formed; kept_same
 pub keeps-mid : MendedLinksAreMidRepair
 keeps-mid from image keeps = record { well_formed = keeps.mended.well_formed; kept_same = keeps.kept_same; found_same = keeps.found_same }
 
--- ---- files that go, and words of the index
+-- ---- files that are deleted, and words of the index
 
 none-touched : (from image : Image) → HasMendedLinks from → IsWellFormed image → SameBut (λ claim. false) (view_of from) (view_of image) → KeepsMendedLinks from image
 none-touched from image mended well same = links-outside (λ claim. false) from image mended well same (λ claim there. refl)

@@ -1,4 +1,4 @@
--- A repaired folder has the state of what it holds.
+-- A repaired folder represents the state of what it holds.
 use Rattle.std.proofs.Common.{◌≡◌, ℕ, true, List, [], ◌++◌, ◌∷◌, ◌%◌, ◌^◌, ◌==◌, Bool, false, Option, Some, length, refl, sym, ap, ◌∙◌, subst}
 use Rattle.std.specs.List.{AllByRecursion, flat_map, sum_by}
 use Rattle.std.proofs.lemmas.List.{length-map}

@@ -183,7 +183,7 @@ writes-keep (write ∷ writes) from ready can =
     let rest = writes-keep writes between ready_between (rest_can from between write writes shows.ends can) in
     subst (KeepsRecordsSealed from) (sym (after-append steps (steps_of_writes writes between) from)) (keeps-more from between (after (steps_of_writes writes between) between) (write-keeps write from ready one) rest)
 
--- ---- growth and files that go
+-- ---- growth and files that are deleted
 
 -- a record whose bytes are the same keeps its checksum
 pub same-sealed : (from image : Image) (w : ℕ) → ((i : ℕ) → place w ≤ i → i < place w + record_size w → byte image (Block (file_selector w)) i ≡ byte from (Block (file_selector w)) i) → IsSealedAt from w → IsSealedAt image w

@@ -77,7 +77,7 @@ CompletedListsAreEnded = (image : Image) → IsWellFormed image → IsWritable i
 abbrev pub ListsAtRestNeedNoEnd : Type 0
 ListsAtRestNeedNoEnd = (image : Image) (nodes : List ℕ) → HasListAtRest nodes image → (completion_steps image ≡ []) × (end_steps image ≡ [])
 
--- The removals, one after the other, while the walked nodes and the kept ones are gone through side by side.
+-- The removals, one after the other, while the walked nodes and the kept ones are read side by side.
 
 -- some numbers without others, where these are among them in the same order
 abbrev pub all_but : List ℕ → List ℕ → List ℕ

@@ -27,7 +27,7 @@ pub record KeepsMendedLinks (from image : Image) : Type 0 where
   pub kept_same : kept image ≡ kept from
   pub found_same : found image ≡ found from
 
--- where a repair that keeps the recovered contents has repaired the links, these are repaired with the same kept and recovered
+-- where a repair that keeps the recovered contents has repaired the links, these are repaired with the same kept records and recovered contents
 abbrev pub RepairedLinksAreKept : Type 0
 RepairedLinksAreKept = (from image : Image) → HoldsTheSame from image → HasMendedLinks image → KeepsMendedLinks from image
 

@@ -81,8 +81,8 @@ pub fn mended_links_represent()
     ensures { MendedLinksRepresent }
 {}
 
-/// Once a repair that keeps the recovered contents has repaired the links, they are repaired with the same kept and recovered. Two changes one after the other
-/// that keep them so are together such a change.
+/// Once a repair that keeps the recovered contents has repaired the links, they are repaired with the same kept records and recovered contents. Two changes,
+/// one after the other, that keep them so are together such a change.
 pub fn mended_links_go_on()
     ensures begins { RepairedLinksAreKept }
     ensures goes_on { MendedLinksGoOn }
@@ -96,9 +96,9 @@ pub fn repairs_hold_the_same()
     ensures stopped { LinkRepairsMayBeStopped }
 {}
 
-/// Repaired links stay repaired, with the same kept and recovered, through each change of what isn't kept. Such are the growth of block files, the deletion of
-/// a block file that isn't linked, a change of an external file that no kept record uses, and the write of a word of the index's header that is neither shown
-/// nor checked, or of the version.
+/// Repaired links stay repaired, with the same kept records and recovered contents, through each change of what isn't kept. Such are the growth of block files,
+/// the deletion of a block file that isn't linked, a change of an external file that no kept record uses, and the write of a word of the index's header that is
+/// neither shown nor checked, or of the version.
 pub fn mended_links_stay_outside()
     ensures outside { MendedLinksStayOutside }
     ensures grow { MendedLinksMayGrow }

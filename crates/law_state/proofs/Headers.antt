@@ -19,7 +19,7 @@ use Rattle.law_folder.proofs.claims.ByteChanges.{same-links}
 use Rattle.law_state.specs.Changes.{SameHeaders}
 use Rattle.law_state.specs.Keeping.{AreFiles, IsMapped}
 
--- no block file of a folder with sound headers is corrupt
+-- no block file of a folder with valid headers is corrupt
 pub undamaged : (image : Image) → HasSoundHeaders image → first_block_damage image ≡ None
 unfolding field_checks list_checks
 undamaged image well =

@@ -15,7 +15,7 @@ use Rattle.spec_format.specs.Headers.{index_magic, magic_of}
 use Rattle.spec_folder.specs.Found.{found, held}
 use Rattle.spec_folder.specs.StandsFor.{StandsFor}
 
--- a request may crash here: the headers are sound, and what is held is a crash outcome of the request
+-- a request may crash here: the headers are valid, and what is held is a crash outcome of the request
 pub record MayStop (state : State) (moment : ℕ) (request : Request) (image : Image) : Type 0 where
   pub sound : HasSoundHeaders image
   pub left : StopOutcome state moment request (step state moment request).state (held image)

@@ -65,7 +65,7 @@ pub record IsMidPart (store : StoreView) (layout : Layout) (key : List ℕ) (loa
   pub whole : (bucket : ℕ) → bucket < table_length → IsChain store bucket (chains bucket)
   pub chained : (bucket contents : ℕ) → is_among (layout.chains bucket) contents ≡ true → is_among (chains bucket) contents ≡ true
 
--- in the midst of making a part, the store view has the state with the part but for the part's node and its parent's
+-- in the midst of making a part, the store view represents the state with the part but for the part's node and its parent's
 abbrev pub NewPartsHoldTheOthers : Type 0
 NewPartsHoldTheOthers = (view : View) (state : State) (objects : List (Option Object)) (layout : Layout) (key : List ℕ) (n : ℕ) (was seen loaded : Loaded) → IsPartWritten view state objects layout key n was seen loaded
     → (store : StoreView) (chains : ℕ → List ℕ) → IsMidPart store layout key loaded chains

@@ -31,7 +31,7 @@ pub record IsAtStage (words : List ℕ) (state : State) (moment : ℕ) (request 
   pub kept : KeepsUncounted inner layout (words ++ unlinked) image
   pub left : MayLeave state moment request (rest inner)
 
--- the headers are sound, and what is held is a crash outcome of the request
+-- the headers are valid, and what is held is a crash outcome of the request
 pub record FindsLeft (state : State) (moment : ℕ) (request : Request) (image : Image) : Type 0 where
   pub held : List Row
   pub left : MayLeave state moment request held
@@ -75,7 +75,7 @@ pub record HasEffect (keeps : State → Image → Type 0) (now : Told) (moment :
 abbrev pub EffectsAreDone : (keeps : State → Image → Type 0) → Type 0
 EffectsAreDone keeps = (told now : Told) (moment : ℕ) (request : Request) (answer : Answer) → ForKept keeps told (HasEffect keeps now moment request answer) → Does keeps keeps told now moment request answer
 
--- a request that may crash at each word, and after which the folder represents the state after it, is stepped once its note is made
+-- a request that may crash at each word, and after which the folder represents the state after it, is made whole once its note is made
 abbrev pub NotesEndSteps : Type 0
 NotesEndSteps = (told done now : Told) (moment : ℕ) (request : Request) (number : ℕ) (state : State) → Passes told done (MayStop state moment request) → ForSome done.files (λ image. StandsFor image (step state moment request).state)
     → Applies done now (Note number ∷ []) → IsStepped told now moment request number state

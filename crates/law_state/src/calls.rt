@@ -60,8 +60,8 @@ pub fn counters_are_written()
     ensures counted { WrittenCountersCount }
 {}
 
-/// While an external file is made, or that of an unlinked word is changed or deleted, the folder holds the old durable contents. It is made (`AddsExternal`) once
-/// it is there, and deleted (`RemovesExternal`) once it isn't.
+/// While an external file is made, or that of an unlinked word is changed or deleted, the folder holds the old durable contents. It is made (`AddsExternal`)
+/// once it is there, and deleted (`RemovesExternal`) once it isn't.
 pub fn external_files_come_and_go()
     ensures making { MakingFilesFindsTheSame }
     ensures made { MadeFilesAreAdded }
@@ -79,8 +79,8 @@ pub fn new_entries_are_kept()
 {}
 
 /// While a part of a sparse object is made, recovery keeps the old durable contents, and from the second write of its insert on those with the part; all nodes
-/// but the part's and its parent's load as before. Once the part's record is linked and its parent is seen with its bit, the view represents the state with the
-/// part.
+/// but the part's and its parent's load as before. Once the part's record is linked and the index of its parent shows its bit, the view represents the state
+/// with the part.
 pub fn new_parts_are_shown()
     ensures others { NewPartsHoldTheOthers }
     ensures at_rest { NewPartsAreAtRest }
@@ -113,8 +113,8 @@ pub fn handles_are_not_kept()
     ensures counted { HandlesAreNotCounted }
 {}
 
-/// While what lies at a node of a dirty or a doomed object changes, and what unlinked words name, the folder holds the old durable contents. Once it has changed,
-/// and its words and the unlinked ones are those that were there, the folder keeps the changed state but for the counters.
+/// While what lies at a node of a dirty or a doomed object changes, and what unlinked words name, the folder holds the old durable contents. Once it has
+/// changed, and its words and the unlinked ones are those that were there, the folder keeps the changed state but for the counters.
 pub fn changed_objects_are_kept()
     ensures unsettled { UnsettledItemsFindTheSame }
     ensures dead { DoomedObjectsFindTheSame }
@@ -129,8 +129,8 @@ pub fn gone_objects_are_unlinked()
     ensures counted { GoneObjectsAreNotCounted }
 {}
 
-/// While an item goes out of the LRU list, the folder holds the old durable contents, and from the second write on those without it, also while its record goes
-/// out of its chain. Then the folder keeps the state without it but for the counters, and its words are unlinked.
+/// While an item is removed from the LRU list, the folder holds the old durable contents, and from the second write on those without it, also while its record
+/// is unlinked. Then the folder keeps the state without it but for the counters, and its words are unlinked.
 pub fn removed_items_are_unlinked()
     ensures removing { RemovalsFindEither }
     ensures unlinking { UnlinkingFindsTheOthers }

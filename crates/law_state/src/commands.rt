@@ -117,7 +117,7 @@ pub fn calls_follow_each_other()
     ensures follow { CallsFollow KeepsSome }
 {}
 
-/// A request is done once its effect is kept and its answer is the model's, whatever handle names there are. It is stepped once its note is made, if it may
+/// A request is done once its effect is kept and its answer is the model's, whatever handle names there are. It is made whole once its note is made, if it may
 /// crash at each word before that and the folder then represents the state after it.
 pub fn commands_are_done()
     ensures ends { EndsAreKept }
@@ -136,8 +136,8 @@ pub fn uses_may_be_stopped()
 {}
 
 /// At each word of the removal of an object's main item, the folder holds the old durable contents, and from the second write on those with the object doomed;
-/// of a part that goes alone it gives the old ones, and then those without it. So a Doom or a DoomKey may crash there, and a request while its next eviction
-/// unit is evicted.
+/// of a part that is evicted alone recovery gives the old ones, and then those without it. So a Doom or a DoomKey may crash there, and a request while its next
+/// eviction unit is evicted.
 pub fn removals_may_be_stopped()
     ensures either { DoomsFindEither }
     ensures out { OutIsDoomed }
@@ -180,7 +180,7 @@ pub fn commands_of_one_call()
     ensures unsettling_stops { UnsettlingMarksMayStop }
 {}
 
-/// While the record of a plain object without a handle, or of a part that goes alone, goes out of its chain, the folder holds the durable contents without it.
+/// While the record of a plain object without a handle, or of a part that is evicted alone, is unlinked, the folder holds the durable contents without it.
 /// Once it is removed, the folder keeps the state without it but for the counters, and its words are unlinked. So a Doom or a DoomKey of a plain object ends,
 /// with or without a handle, and so the next eviction unit is evicted.
 pub fn plain_objects_are_removed()
@@ -219,9 +219,9 @@ pub fn held_objects_go_part_after_part()
     ensures dooms { HeldOutDoomsEnd }
 {}
 
-/// Once the main item of an object is out, and while its parts go out one after another, the folder holds the durable contents with the object doomed. So it
-/// does at each word of the removal of a part, while a record goes out of its chain, while blocks are freed and while an external file is deleted; and there a
-/// Doom or a DoomKey may crash, and a request whose next eviction unit is evicted.
+/// Once the main item of an object is out, and while its parts are removed one after another, the folder holds the durable contents with the object doomed. So
+/// it does at each word of the removal of a part, while a record is unlinked, while blocks are freed and while an external file is deleted; and there a Doom or
+/// a DoomKey may crash, and a request whose next eviction unit is evicted.
 pub fn parts_may_be_stopped_between()
     ensures leave { ItemsOfAKeyLeaveOthers }
     ensures out { PartlyOutIsOut }
@@ -234,7 +234,7 @@ pub fn parts_may_be_stopped_between()
     ensures groups { PartlyOutGroupsMayStop }
 {}
 
-/// The number of items and the sum of their costs fall by what is evicted, by a doomed object with its parts, and by each of their items that goes out in
+/// The number of items and the sum of their costs fall by what is evicted, by a doomed object with its parts, and by each of their items that is removed in
 /// turn; they rise by a part that is made.
 pub fn parts_are_counted()
     ensures gone { GoneItemsAreLess }
@@ -253,7 +253,8 @@ pub fn creates_may_be_stopped()
 
 /// The rest of a command, which is the command on the state without the first eviction units that it evicts, isn't refused, and evicts the eviction units that
 /// are left, or nothing; the rest of a Trim evicts something where eviction units are left. Where the rest evicts something if eviction units are left, its
-/// list steps are the later ones of the whole command, it ends in the same state, and a crash outcome of it is one of the whole command; else one need not be.
+/// list steps are the later ones of the whole command, it ends in the same state, and a crash outcome of it is one of the whole command; otherwise this need
+/// not hold.
 pub fn rests_of_commands_may_be_stopped()
     ensures passes { RestsAreNotRefused }
     ensures evicts { RestsEvictTheOthersOrNone }

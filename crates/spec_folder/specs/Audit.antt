@@ -34,7 +34,7 @@ same_answer one other = if one then other else not other
 unfoldable pub shares_key : List Loaded → Loaded → Bool
 shares_key kept loaded = list_any (λ k. same_answer (is_part k) (is_part loaded) && bytes_eq k.key loaded.key) kept
 
--- a key and a role are those of the parent of a part with this name: the name's key, and an index with the name's signature and the part's bit set
+-- a key and a role are those of the parent of a part with this name: the name's key, and an index with the name's generation and the part's bit set
 abbrev pub is_parent_role : Name → List ℕ → Role → Bool
 is_parent_role name key IsPlain = false
 is_parent_role name key (IsParent index) = bytes_eq key name.key && (index.signature == name.signature) && index.has_part name.part

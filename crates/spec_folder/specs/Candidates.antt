@@ -27,19 +27,19 @@ unfoldable pub name_at : StoreView → ℕ → Option Name
 name_at store node =
     option_and_then (λ node_fields. option_and_then (λ fields. option_and_then read_name (sound_key store node_fields.contents fields)) (store.entry node_fields.contents)) (store.node_fields node)
 
--- a role is a parent's with a signature
+-- a role is a parent's of a generation
 abbrev pub has_signature : ℕ → Role → Bool
 has_signature signature IsPlain = false
 has_signature signature (IsParent index) = index.signature == signature
 has_signature signature (IsPart name index) = false
 
--- a record has the flag of a parent, the key and the signature of a part's name, and a right checksum, key length, key place, streams and index
+-- a record has the flag of a parent, the key and the generation of a part's name, and a right checksum, key length, key place, streams and index
 abbrev pub is_parent_with : StoreView → Name → ℕ → RecordFields → Bool
 is_parent_with store name contents fields =
     (fields.flags == parent)
     && option_map_or (λ key. bytes_eq key name.key && option_map_or (λ streams. option_map_or (has_signature name.signature) (role_of fields key streams) false) (stored_streams store fields) false) (sound_key store contents fields) false
 
--- a clean node names a record that is the parent of a part's name: with its key and signature, and otherwise right (`is_parent_with`)
+-- a clean node names a record that is the parent of a part's name: with its key and generation, and otherwise right (`is_parent_with`)
 unfoldable pub is_parent_at : StoreView → Name → ℕ → Bool
 is_parent_at store name node =
     is_clean store node && option_map_or (λ node_fields. option_map_or (is_parent_with store name node_fields.contents) (store.entry node_fields.contents) false) (store.node_fields node) false

@@ -1,4 +1,4 @@
--- What a folder shows that was just made.
+-- What a newly made folder shows.
 use Rattle.std.specs.Prelude.{[], false, ◌&&◌, ◌==◌, if◌then◌else◌}
 use Rattle.std.specs.declared.option.Option.TheVariants.{None, Some}
 use Rattle.spec_folder.specs.ListView.{ListView}

@@ -69,7 +69,7 @@ parent_role fields streams =
     option_and_then (λ index. if index.key_len == fields.key_len then Some (IsParent index) else None) (read_parent_index (stream 2 streams))
 
 -- the role of a record with a part's flag: a name as its key, nothing in stream 0, at most the size of a part in stream 1, and in stream 2 an index with the
--- name's signature and key length, whose present bytes lie inside the data; None where it is otherwise
+-- name's generation and key length, whose present bytes lie inside the data; None where it is otherwise
 unfoldable pub part_role : List ℕ → List (List ℕ) → Option Role
 part_role key streams =
     if not (length (stream 0 streams) == 0) then None else

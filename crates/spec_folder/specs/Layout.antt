@@ -127,8 +127,8 @@ pub record Holds (store : StoreView) (state : State) (layout : Layout) : Type 0 
   pub shows : Shows store layout
   pub lies : IsLayoutOf state layout
 
--- a view has the state by a layout: its store agrees with a layout that fits the state, its LRU list is whole, with the items' nodes in the state's order, and
--- it is idle
+-- a view represents the state by a layout: its store agrees with a layout that fits the state, its LRU list is whole, with the items' nodes in the state's
+-- order, and it is idle
 pub record Represents (view : View) (state : State) (layout : Layout) : Type 0 where
   pub holds : Holds view.store state layout
   pub list : IsList view.list (order state layout)

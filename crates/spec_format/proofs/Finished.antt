@@ -16,7 +16,7 @@ finished : (o : Option (List ℕ)) (magic : ℕ) → length (unwrap_or o []) ≡
 finished None magic long is = let c : ◌≡◌ {A = ℕ} 0 262512 = long in cc
 finished (Some bytes) magic long is = rw (long, is) refl
 
--- a well-formed folder has sound headers
+-- a well-formed folder has valid headers
 pub sound-of : (image : Image) → IsWellFormed image → HasSoundHeaders image
 unfolding head_checks
 sound-of image well = (passed Index 0 _ (magic_of (byte image Index) == index_magic) _ well).1
@@ -51,7 +51,7 @@ headers-kept image = record { sound = λ sound. sound; magic = refl }
 pub headers-next : (from between image : Image) → KeepsHeaders from between → KeepsHeaders between image → KeepsHeaders from image
 headers-next from between image first second = record { sound = λ sound. second.sound (first.sound sound); magic = second.magic ∙ first.magic }
 
--- What sound headers say.
+-- What valid headers say.
 
 pub sound-whole : SoundHasWholeIndex
 unfolding field_checks

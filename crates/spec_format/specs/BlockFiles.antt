@@ -143,11 +143,11 @@ pub record IsDamagedBy (damage : Damage) (image : Image) : Type 0 where
 abbrev pub HasSoundHeaders : Image → Type 0
 HasSoundHeaders image = first_of (field_checks (byte image Index) (length_of image Index) ++ list_checks (byte image Index) ++ block_checks image) ≡ None
 
--- a folder is well formed exactly where its headers are sound and the magic word of an initialized index is there
+-- a folder is well formed exactly where its headers are valid and the magic word of an initialized index is there
 abbrev pub WellFormedIsSound : Type 0
 WellFormedIsSound = (image : Image) → IsWellFormed image ↔ (HasSoundHeaders image × (magic_of (byte image Index) ≡ index_magic))
 
--- sound headers stay sound, and the magic word is as before
+-- valid headers stay valid, and the magic word is as before
 pub record KeepsHeaders (from image : Image) : Type 0 where
   pub sound : HasSoundHeaders from → HasSoundHeaders image
   pub magic : magic_of (byte image Index) ≡ magic_of (byte from Index)
@@ -156,7 +156,7 @@ pub record KeepsHeaders (from image : Image) : Type 0 where
 abbrev pub KeptHeadersStayFormed : Type 0
 KeptHeadersStayFormed = (from image : Image) → KeepsHeaders from image → IsWellFormed from → IsWellFormed image
 
--- the index of a folder with sound headers has all its bytes
+-- the index of a folder with valid headers has all its bytes
 abbrev pub SoundHasWholeIndex : Type 0
 SoundHasWholeIndex = (image : Image) → HasSoundHeaders image → HasWholeIndex image
 

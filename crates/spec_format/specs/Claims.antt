@@ -8,7 +8,7 @@ pub data Claim : Type 0 where
   BlockOf : ℕ → ℕ → Claim
   ExternalOf : ℕ → Claim
 
--- whether two used ones are the same block, or the same external number
+-- whether two used blocks or numbers are the same block, or the same external number
 abbrev pub same_claim : Claim → Claim → Bool
 same_claim (BlockOf file b) (BlockOf other c) = (file == other) && (b == c)
 same_claim (ExternalOf m) (ExternalOf n) = m == n
@@ -29,11 +29,11 @@ is_in_file file w = not (kind_of w == external) && (file_selector w == file)
 abbrev pub claims_of_all : List ℕ → List Claim
 claims_of_all words = flat_map claims_of words
 
--- whether a block or an external number is in a list of used ones
+-- whether a block or an external number is in a list of used blocks or numbers
 unfoldable pub has_claim : List Claim → Claim → Bool
 has_claim claims c = list_any (same_claim c) claims
 
--- whether two lists share a used block or external number
+-- whether two lists of used blocks or numbers share one
 unfoldable pub overlap : List Claim → List Claim → Bool
 overlap claims others = list_any (has_claim claims) others
 

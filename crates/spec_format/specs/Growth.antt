@@ -22,7 +22,7 @@ pub record KeepsBlocks (from image : Image) : Type 0 where
   pub bytes : (w i : ℕ) → stands_in_blocks from w ≡ true → place w ≤ i → i < place w + byte_size w
       → byte image (Block (file_selector w)) i ≡ byte from (Block (file_selector w)) i
 
--- block files have grown at most, and the headers are kept: sound ones stay sound, with the same magic word
+-- block files have grown at most, and the headers are kept: valid ones stay valid, with the same magic word
 pub record StaysWhole (from image : Image) : Type 0 where
   pub grown : HaveGrown from image
   pub headers : KeepsHeaders from image

@@ -1,4 +1,4 @@
--- Names of the parts of a sparse entry: `Range_`, the parent's key, `:`, the signature, `:`, the part, both numbers in lower-case hexadecimal.
+-- Names of the parts of a sparse entry: `Range_`, the parent's key, `:`, the signature (its generation), `:`, the part, both numbers in lower-case hexadecimal.
 use Rattle.std.specs.Prelude.{◌≡◌, ℕ, ◌+◌, ◌-◌, List, [], ◌∷◌, ◌++◌, length, drop, map, codes, Bool, true, false, ◌&&◌, nat_lt, nat_le, ◌==◌, if◌then◌else◌}
 use Rattle.std.specs.Option.{option_and_then}
 use Rattle.std.specs.Str.{bytes_eq}

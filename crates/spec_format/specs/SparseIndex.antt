@@ -19,7 +19,7 @@ parent_index_length = parts_index_charge
 abbrev pub part_index_length : ℕ
 part_index_length = blocks_index_charge
 
--- the signature in a sparse index, a signed number
+-- the signature in a sparse index, which is the generation of its object: a signed number
 abbrev pub sparse_signature_of : (ℕ → ℕ) → ℤ
 sparse_signature_of f = cast_signed w64 (long_at f 0)
 

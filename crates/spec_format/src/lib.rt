@@ -25,7 +25,8 @@ pub fn well_formed_is_finished()
     ensures whole { WellFormedHasWholeIndex }
 {}
 
-/// Well formed is sound headers and the magic word of an initialized index; headers that are kept keep it, and sound ones have the index's whole length.
+/// A folder is well formed exactly where its headers are valid and its index has the magic word. A change that leaves the headers leaves it well formed; an
+/// index with valid headers has its whole length.
 pub fn well_formed_is_sound()
     ensures sound { WellFormedIsSound }
     ensures kept { KeptHeadersStayFormed }

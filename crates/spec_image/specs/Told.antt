@@ -83,7 +83,7 @@ is_quiet (Delete (Block n)) = true
 is_quiet (Delete (External n)) = true
 is_quiet (Note number) = false
 
--- P, and the test holds
+-- P holds, and so does the test
 abbrev pub OnlyWhere : Bool → Type 0 → Type 0
 OnlyWhere true P = P
 OnlyWhere false P = ⊥
@@ -112,7 +112,7 @@ pub record PassesAnyTo (old new : Told) (P Q : Image → Type 0) : Type 0 where
   pub unnoted : HasNoNote steps
   pub along : ForSome old.files (λ image. Until P Q image steps)
 
--- and P holds of the image before each of them and after the last
+-- steps of a call that makes or opens a folder were made, and P holds of the files before each of them and after the last
 abbrev pub PassesAny : Told → Told → (Image → Type 0) → Type 0
 PassesAny old new P = PassesAnyTo old new P P
 

@@ -42,7 +42,7 @@ pub part-is_covered : Covers whole_folder (range (Block 1) 8448 2) (has_claim (c
 unfolding kind_of file_selector place byte_size block_place block_size first_block block_count
 part-is_covered = covers-less whole_folder (range (Block 1) 8448 2) (range (Block (file_selector its_stream)) (place its_stream) (byte_size its_stream)) (has_claim (claims_of its_stream)) (range_within (Block 1) 8448 2 8448 256 (lit≤ tt) (lit≤ tt)) stream-is_covered
 
--- the counter of the allocations of data_1 needs no cover
+-- the counter of the allocations of data_1 need not be contained in a footprint
 pub counter-needs_no_cover : Covers whole_folder (range (Block 1) 16 4) (λ claim. false)
 counter-needs_no_cover = headers-covered whole_folder 1 16 4 (lit≤ tt) (inr (inl (lit≤ tt, lit≤ tt)))
 
@@ -58,7 +58,7 @@ both-are_covered = covers-either whole_folder (range (Block 1) 16 4) (range (Blo
 pub external-is_covered : Covers whole_folder (whole (External 7)) (λ claim. same_claim claim (ExternalOf 7))
 external-is_covered = externals-covered whole_folder 7
 
--- the counters of the index need no cover
+-- the counters of the index need not be contained in a footprint
 pub index-needs_no_cover : Covers whole_folder (range Index 8 8) (λ claim. false)
 index-needs_no_cover = hidden-covered whole_folder 8 8 (λ i low high. grind (arith, nat_tests))
 

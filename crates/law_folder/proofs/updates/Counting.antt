@@ -18,7 +18,7 @@ use Rattle.law_folder.specs.TidyLaws.{FilesStandBehindHeaders}
 use Rattle.law_folder.proofs.claims.ByteChanges.{same-links}
 use Rattle.spec_format.proofs.Groups.{groups_same}
 
--- a linked file of a folder with sound headers has no more blocks than a file may have
+-- a linked file of a folder with valid headers has no more blocks than a file may have
 some-type : (lists : ℕ → List ℕ) (n : ℕ) → is_some (kind_among lists n) ≡ true → (kind : ℕ) × (is_block_kind kind ≡ true) × (is_among (lists kind) n ≡ true)
 unfolding kind_among
 some-type lists n some = go (is_among (lists 1) n) (is_among (lists 2) n) (is_among (lists 3) n) (is_among (lists 4) n) refl refl refl refl some where

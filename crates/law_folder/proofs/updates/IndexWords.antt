@@ -178,7 +178,7 @@ other_checked = 0 ∷ 24 ∷ 28 ∷ 36 ∷ zero_places
 abbrev other_sound : List ℕ
 other_sound = 24 ∷ 28 ∷ 36 ∷ zero_places
 
--- sound headers stay sound where these are the same, and the check of the version gives the same
+-- valid headers stay valid where these are the same, and the check of the version gives the same
 sound-kept : (from image : Image) (at : ℕ) → SameOutside (one_word Index at) from image → SameVersionCheck (byte image Index) (byte from Index)
     → ((p : ℕ) → p % 4 ≡ 0 → p + 4 ≤ 368 → is_among other_sound p ≡ true → word image Index p ≡ word from Index p) → HasSoundHeaders from → HasSoundHeaders image
 unfolding list_checks

@@ -1,4 +1,4 @@
--- Checks that go on holding where neither what they read of the index nor a header changes.
+-- Checks that hold still where neither what they read of the index nor a header changes.
 use Rattle.std.proofs.Common.{◌≡◌, ℕ, ◌+◌, ◌<◌, Bool, true, false, ◌&&◌, ◌++◌, refl, ◌∙◌, arith}
 use Rattle.std.specs.Prelude.{nat_le, nat_lt}
 use Rattle.std.proofs.lemmas.Bool.Decides.{nat_tests}
@@ -18,7 +18,7 @@ before_range file other at n i below = by_file (same_file file other)
     by_file true = grind (arith, nat_tests)
     by_file false = refl
 
--- sound headers stay sound where none of a block file changes, and no length of one, and the checks of the index give the same
+-- valid headers stay valid where none of a block file changes, and no length of one, and the checks of the index give the same
 pub sound_still : (F : Footprint) (from image : Image) → SparesHeaders F → ((n : ℕ) → F.sizes (Block n) ≡ false) → SameOutside F from image
     → first_of (field_checks (byte image Index) (length_of image Index)) ≡ first_of (field_checks (byte from Index) (length_of from Index))
     → first_of (list_checks (byte image Index)) ≡ first_of (list_checks (byte from Index))
