@@ -173,7 +173,7 @@ module _ (scan : Scan) (a b : Told) (from : Image) (there : a.files ≡ Some fro
 pub silent-deletions : (goes : File → Bool) (first : File) {a b : Told} → DeletesSome goes first a b → a.files ≡ None → b.files ≡ None
 silent-deletions goes first {a} {b} some none = some.1.applies.files ∙ ap (option_map (after (deletions (filter goes some.1.files)))) none
 
--- at each deletion the same is kept and found
+-- at each deletion kept records and recovered contents are the same
 pub deletion-mid : (entry from image : Image) → IsMidDeletion entry from image → IsMidRepair entry image
 deletion-mid entry from image mid = keeps-mid entry image mid.holds.keeps
 

@@ -33,8 +33,8 @@ pub fn mend_index<F: Folder>(
     ensures steps { OnOk result (OnImage F.told folder.old folder.new (DoesAll (index_steps items bytes this_id))) }
     ensures prefix { MakesPartOf (F.told folder.old) (F.told folder.new) (λ from. index_steps items bytes this_id from) }
 
-    // Where the links are repaired they stay so at each word, with the same kept and found; in the end the counters count what is kept, and what was repaired
-    // of the files and of the checksums is so still.
+    // Where the links are repaired they stay so at each word, with the same kept records and recovered contents; in the end the counters count what is kept,
+    // and what was repaired of the files and of the checksums is so still.
     ensures mended { OnOk result (ForEntry F.told folder.old folder.new (λ entry. IsNextCounted entry items bytes) (λ entry. Leaves (IsIndexMended entry))) }
     ensures stops { ForEntry F.told folder.old folder.new HasMendedLinksOf (λ entry from old new. PassesAny old new (HasMendedLinksOf entry)) }
 

@@ -21,7 +21,7 @@ const LAST_FIRST_FILE: u8 = 3;
 
 /// Deletes each block file that exists and isn't linked.
 ///
-/// This takes one `list` call, and one more for each block file from `data_4` on; each file that goes takes a `delete`
+/// This takes one `list` call, and one more for each block file from `data_4` on; each file that is deleted takes a `delete`
 /// call. `Failed` comes only where the folder failed in this call; a prefix of the deletions was then made.
 pub fn delete_unlinked<F: Folder>(folder: &mut F, files: &BlockFiles) -> Result<(), Failed>
     requires is_open { ForSome (F.told folder.old).files (IsOpen files.now) }
@@ -29,8 +29,8 @@ pub fn delete_unlinked<F: Folder>(folder: &mut F, files: &BlockFiles) -> Result<
     ensures steps { OnOk result (DeletesAll (is_unlinked files.now) last_first_file (F.told folder.old) (F.told folder.new)) }
     ensures prefix { DeletesSome (is_unlinked files.now) last_first_file (F.told folder.old) (F.told folder.new) }
 
-    // Where the links are repaired they stay so at each deletion, with the same kept and found, and the crash word is spared; and what was repaired of the
-    // files and of the checksums is so still.
+    // Where the links are repaired they stay so at each deletion, with the same kept records and recovered contents, and the crash word is unchanged; and what
+    // was repaired of the files and of the checksums is so still.
     ensures stops { ForEntry F.told folder.old folder.new HasMendedLinksOf (λ entry. StopsWith (IsMidDeletion entry)) }
 
     ensures is_open { ForSome (F.told folder.new).files (IsOpen files.now) }
@@ -52,16 +52,16 @@ pub fn delete_unlinked<F: Folder>(folder: &mut F, files: &BlockFiles) -> Result<
 /// Deletes each external file that exists and whose number isn't used.
 ///
 /// A number that no address has isn't used. This takes one `list` call, and one more for each external file; each file
-/// that goes takes a `delete` call. `Failed` comes only where the folder failed in this call; a prefix of the deletions
+/// that is deleted takes a `delete` call. `Failed` comes only where the folder failed in this call; a prefix of the deletions
 /// was then made.
 pub fn delete_unclaimed<F: Folder>(folder: &mut F, claims: &Claims) -> Result<(), Failed>
-    // With the used blocks of what is kept, the external files that are there are those that it uses.
+    // Where `claims` are the used blocks of what is kept, exactly the external files that it uses are left.
     ensures claimed { OnOk result (WhereRebuilt F.told folder.old folder.new claims.now (λ entry. Leaves (λ from. HasOnlyClaimed))) }
     ensures steps { OnOk result (DeletesAll (is_unclaimed claims.now) last_block_file (F.told folder.old) (F.told folder.new)) }
     ensures prefix { DeletesSome (is_unclaimed claims.now) last_block_file (F.told folder.old) (F.told folder.new) }
 
-    // The links then stay repaired at each deletion, with the same kept and found, and the crash word is spared; and what was repaired of the files and of the
-    // checksums is so still.
+    // The links then stay repaired at each deletion, with the same kept records and recovered contents, and the crash word is unchanged; and what was repaired
+    // of the files and of the checksums is so still.
     ensures stops { WhereRebuilt F.told folder.old folder.new claims.now (λ entry. StopsWith (IsMidDeletion entry)) }
 
     ensures is_open { (files : BlockFiles) → ForSome (F.told folder.old).files (IsOpen files) → ForSome (F.told folder.new).files (IsOpen files) }

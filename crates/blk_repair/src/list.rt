@@ -33,7 +33,7 @@ pub fn mend_list<F: Folder>(
     ensures steps { OnOk result (OnImage F.told folder.old folder.new (DoesAll (mending_steps walked.now kept.now))) }
     ensures prefix { MakesPartOf (F.told folder.old) (F.told folder.new) (mending_steps walked.now kept.now) }
 
-    // With the walked and the kept nodes of the folder the list is repaired in the end, and the same is kept and found at each
+    // With the walked and the kept nodes of the folder the list is repaired in the end, and kept records and recovered contents are the same at each
     // word.
     ensures mended { OnOk result (Where F.told folder.old folder.new (IsListScanned walked.now kept.now) (Leaves IsListMended)) }
     ensures stops { Where F.told folder.old folder.new (IsListScanned walked.now kept.now) (HoldsAlong HoldsTheSame) }

@@ -37,8 +37,8 @@ pub fn mend_files<F: Folder>(
     // A step is made only where it is needed, and none but on lengths, maps, counters and updating.
     ensures rebuilds { OnImage F.told folder.old folder.new (AppliesOf (Rebuilds files.old claims.now)) }
 
-    // Where the links are repaired they stay so at each word, with the same kept and found; where the used blocks are those of what is kept the files are
-    // repaired in the end, and what had its checksum has it still.
+    // Where the links are repaired they stay so at each word, with the same kept records and recovered contents; where the used blocks are those of what is
+    // kept the files are repaired in the end, and what had its checksum has it still.
     ensures mended { OnOk result (WhereRebuilt F.told folder.old folder.new claims.now (λ entry. Leaves (AreFilesMended entry))) }
     ensures stops { ForEntry F.told folder.old folder.new KeepsMendedLinks (λ entry from. HoldsAlong KeepsMendedLinks entry) }
     ensures is_open { ForSome (F.told folder.new).files (IsOpen files.new) }

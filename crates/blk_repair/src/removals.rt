@@ -31,7 +31,7 @@ pub fn remove_others<F: Folder>(
     ensures steps { OnOk result (OnImage F.told folder.old folder.new (DoesAll (removal_steps (all_but walked.now kept.now)))) }
     ensures prefix { MakesPartOf (F.told folder.old) (F.told folder.new) (λ from. removal_steps (all_but walked.now kept.now) from) }
 
-    // Where the list was ended with the walked nodes, it is repaired in the end, and the same is kept and found at each
+    // Where the list was ended with the walked nodes, it is repaired in the end, and kept records and recovered contents are the same at each
     // word.
     ensures mended { OnOk result (WhereEnded F.told folder.old folder.new walked.now kept.now (λ entry from. Leaves IsListMended entry)) }
     ensures stops { WhereEnded F.told folder.old folder.new walked.now kept.now (λ entry from. HoldsAlong HoldsTheSame entry) }

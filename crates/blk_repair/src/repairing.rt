@@ -38,7 +38,7 @@ use blk_scan::Scan;
 /// Recovers a folder by what its scan reported: the LRU list, the chains, the block files, the files that nothing names, the checksums, and the words of the
 /// index. The last step sets the crash word to 1, in a session with the next number.
 ///
-/// It takes no memory and walks nothing. At each word the same is kept and found, so it may crash anywhere and be begun
+/// It takes no memory and walks nothing. At each word kept records and recovered contents are the same, so it may crash anywhere and be begun
 /// again. A failed check is one of a part. An observable folder gives none where the scan is its own.
 pub fn repair<F: Folder>(f: &mut F, files: &mut BlockFiles, scan: &Scan) -> Result<(), Fault>
     requires stand { StandAmong files.old scan.now }

@@ -27,8 +27,8 @@ pub fn seal_records<F: Folder>(
     ensures steps { OnOk result (OnImage F.told folder.old folder.new (DoesAll (seals_steps records.now))) }
     ensures prefix { MakesPartOf (F.told folder.old) (F.told folder.new) (λ from. seals_steps records.now from) }
 
-    // Where the links are repaired and these nodes and records are kept, the links stay so at each word, with the same kept and found; in the end these have
-    // their checksums, so all that is kept has them if the others had, and what had its checksum or was repaired of the files is so still.
+    // Where the links are repaired and these nodes and records are kept, the links stay so at each word, with the same kept records and recovered contents; in
+    // the end these have their checksums, so all that is kept has them if the others had, and what had its checksum or was repaired of the files is so still.
     ensures sealed { OnOk result (WhereSealed F.told folder.old folder.new records.now (λ entry. Leaves (λ from. AreSealedNow entry from records.now))) }
     ensures stops { WhereSealed F.told folder.old folder.new records.now (λ entry from. HoldsAlong HasMendedLinksOf entry) }
 

@@ -40,7 +40,7 @@ pub fn mend_chains<F: Folder>(
     requires is_open { ForSome (F.told folder.old).files (IsOpen files.now) }
 
     // With the kept records of the folder the steps are those of the repair of the chains, from the first on: all are
-    // repaired in the end, and the same is kept and found at each word.
+    // repaired in the end, and kept records and recovered contents are the same at each word.
     ensures steps { OnOk result (Where F.told folder.old folder.new (AreChainsScanned records.now ends.now whole.now) (DoesAll chain_repair_steps)) }
     ensures prefix { Where F.told folder.old folder.new (AreChainsScanned records.now ends.now whole.now) (DoesPrefix chain_repair_steps) }
     ensures mended { OnOk result (Where F.told folder.old folder.new (AreChainsScanned records.now ends.now whole.now) (Leaves AreChainsMended)) }

@@ -1,4 +1,4 @@
--- What is kept and found of any image: a snapshot, each block of which has one owner.
+-- The kept records and the recovered contents of any image: a snapshot, each block of which has one owner.
 use Rattle.spec_image.specs.Image.{Image, AreBytes}
 use Rattle.blk_model.specs.Items.{IsValidHolding}
 use Rattle.std.specs.Prelude.{◌≡◌, false}

@@ -106,7 +106,7 @@ module _ (w : ℕ) (from image : Image) (a : AddsAllocation from w image) (state
   w-stands : stands_in image w ≡ true
   w-stands = All-head (λ v. stands_in image v ≡ true) w _ here.stand
 
-  -- nobody had what is allocated
+  -- what is allocated had no owner
   fresh : (claim : Claim) → has_claim (claims_of w) claim ≡ true → has_claim (claims_of_all (words_in_use unlinked (all_loaded state layout k.numbers))) claim ≡ false
   fresh (ExternalOf n) e = absurd (let z : true ≡ false = sym e ∙ blocks-only w n apart in cc)
   fresh (BlockOf n b) e = ⊎_elim

@@ -1,5 +1,5 @@
--- Where a folder can be written, a record that comes after another can go out of its chain: the link of the one before it is written. So the laws on items that
--- go out speak of such records too.
+-- Where a folder can be written, a record that comes after another can be unlinked: the link of the one before it is written. So the laws on items that
+-- are removed speak of such records too.
 use Rattle.std.proofs.Common.{◌≡◌, ◌≢◌, ⊎_elim, ℕ, ◌<◌, List, [], ◌∷◌, refl, ap, sym, ◌∙◌, subst, lit<, Option, Some, true, false}
 use Rattle.std.specs.Prelude.{◌==◌, ◌&&◌}
 use Rattle.std.specs.Option.{option_map_or}

@@ -26,7 +26,7 @@ use Rattle.law_state.proofs.Dirtying.{set-at, set-else}
 use Rattle.law_state.proofs.Doomed.{other-items}
 use Rattle.law_state.proofs.Gone.{set-none}
 
--- ---- an object goes whole
+-- ---- an object is removed whole
 
 module _ (state : State) (number : ℕ) (object : Object) (valid : IsValidState state) (here : object_at state number ≡ Some object) (live : object.live ≡ true) (unheld : is_named state number ≡ false) (after : IsValidState (doomed number state (Some object))) where
   rows : (item : Item) → is_of_another object.key item ≡ true → model.row_of (without_items state (doomed number state (Some object)).objects (is_of_another object.key)) item ≡ model.row_of state item

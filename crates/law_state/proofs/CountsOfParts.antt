@@ -25,7 +25,7 @@ use Rattle.law_state.proofs.NewParts as made
 use Rattle.law_state.proofs.NextOut as next
 use Rattle.law_state.proofs.NodeChanges.{others-at}
 
--- ---- items that stay and items that go
+-- ---- items that stay and items that are removed
 
 lengths-parted : (keep : Item → Bool) (items : List Item) → length (filter keep items) + length (filter (λ i. not (keep i)) items) ≡ length items
 lengths-parted keep [] = refl

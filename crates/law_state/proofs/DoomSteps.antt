@@ -1,4 +1,4 @@
--- A record that goes out of the list and out of its chain loads as before, and once its state is 2 it loads as that of a doomed object.
+-- A record that is removed from the list and unlinked from its chain loads as before, and once its state is 2 it loads as that of a doomed object.
 use Rattle.std.proofs.Common.{◌≡◌, ℕ, [], ◌∷◌, refl, sym, subst, true, false, Ok, Some}
 use Rattle.spec_image.specs.Footprint.{SameOutside}
 use Rattle.spec_image.specs.Image.{Image}
@@ -15,7 +15,7 @@ use Rattle.law_state.specs.Changes.{ChangesOnly}
 use Rattle.law_state.specs.RemovalLaws.{IsRemovalDone}
 use Rattle.law_state.proofs.RecordSteps.{doomed-leaves, doomed-only, doomed-outside, doomed-sealed, doomed-shown, rewritten}
 
--- while a node goes out of the list each record loads as before
+-- while a node is removed from the list each record loads as before
 pub loads-unlisted : (from between : Image) (node other : ℕ) (loaded : Loaded) → IsRemovalDone from other between → load (store_of from) (unchained_rule 0) node ≡ Ok loaded → load (store_of between) (unchained_rule 0) node ≡ Ok loaded
 loads-unlisted from between node other loaded done loads = records-outside (λ claim. false) (store_of from) (store_of between) 0 node loaded loads done.partly.shown.store.store (λ claim has. refl)
 

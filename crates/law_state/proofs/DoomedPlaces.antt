@@ -1,4 +1,4 @@
--- A live object that a handle names is doomed, and its parts go: where its nodes are then, and their words.
+-- A live object that a handle names is doomed, and its parts are removed: where its nodes are then, and their words.
 use Rattle.std.proofs.Common.{◌≡◌, ◌≢◌, ℕ, ◌<◌, List, [], ◌∷◌, ◌++◌, refl, ap, sym, ◌∙◌, subst, Bool, true, false, Option, Some, ⊎_elim, append_assoc}
 use Rattle.std.specs.Prelude.{◌||◌, ◌&&◌, ◌==◌, IfSome, filter, not}
 use Rattle.std.specs.List.{cons_option, filter_map, flat_map}
@@ -46,7 +46,7 @@ use Rattle.law_state.specs.WholeRemovals.{is_no_part_of, layout_doomed_whole, pa
 
 -- ---- items of a key
 
--- an item of another key stays with the parts gone
+-- an item of another key stays where the parts are removed
 stays-there : (key : List ℕ) (i : Item) → is_of_another key i ≡ true → is_no_part_of key i ≡ true
 stays-there key i e = or_left (is_of_another key i) (same_item (main key) i) e
 
@@ -178,7 +178,7 @@ module _ (state : State) (layout : Layout) (number : ℕ) (object : Object) (l :
       (subst (λ (ns : List ℕ). IsPermutation (words_at at (prefix ++ node ∷ (suffix ++ rest-nodes))) (words_at at ns)) front (node-to-front at prefix node (suffix ++ rest-nodes)))
       (IsPermutation-sym (words_at at ((prefix ++ suffix) ++ node ∷ rest-nodes)) (words_at at (node ∷ (prefix ++ suffix) ++ rest-nodes)) (node-to-front at (prefix ++ suffix) node rest-nodes))))
 
-  -- what is left with the parts gone is at the nodes of other keys and of the doomed objects, and at its own
+  -- what is left without the parts is at the nodes of other keys and of the doomed objects, and at its own
   left-apart : (n : ℕ) → is_among (nodes_of layout (filter (is_of_another key) state.uses) ++ rest-nodes) n ≡ true → is_among parts n ≡ false
   left-apart n there = ⊎_elim
       (λ (e : is_among (nodes_of layout (filter (is_of_another key) state.uses)) n ≡ true). others-stay n e)
@@ -219,7 +219,7 @@ module _ (state : State) (layout : Layout) (number : ℕ) (object : Object) (l :
       subst (λ (x : Option Loaded). IfSome x (λ loaded. loaded.dirty ≡ id)) (sym here) (marks n z was live unsettled))
       (cases_eq n number)
 
-  -- of what went out of the chains its node alone has something
+  -- of what was unlinked from the chains the object's node alone has something
   pub only-main : (n : ℕ) (other : Loaded) → at n ≡ Some other → is_among (gone_nodes state layout (is_of_another key)) n ≡ true → node ≡ n
   only-main n other is gone =
       let i : IsNodeOf layout (filter (λ j. not (is_of_another key j)) state.uses) n = node-of layout (filter (λ j. not (is_of_another key j)) state.uses) n gone in

@@ -1,4 +1,4 @@
--- A live object that a handle names is doomed, and its parts go.
+-- A live object that a handle names is doomed, and its parts are removed.
 use Rattle.std.proofs.Common.{◌≡◌, ℕ, List, ◌∷◌, ◌++◌, sym, subst, Bool, true, Some}
 use Rattle.std.specs.Prelude.{filter}
 use Rattle.std.specs.List.Sorted.{IsPermutation}

@@ -36,7 +36,7 @@ use Rattle.law_state.proofs.MakingFiles.{its-claims}
 abbrev file_claim : ℕ → Claim → Bool
 file_claim n claim = same_claim claim (ExternalOf n)
 
--- ---- one external file changes, or comes or goes
+-- ---- one external file changes, or is made or deleted
 
 module _ (from image : Image) (n : ℕ) (same : SameOutside (whole (External n)) from image) where
   abbrev index : image Index ≡ from Index
@@ -184,7 +184,7 @@ making-finds from image n m state layout unlinked k = (formed, held-at_rest imag
   formed : HasSoundHeaders image
   formed = (making-headers from image n m).sound k.sound
 
-  -- nobody has the number
+  -- the number has no owner
   none : has_claim (claims_of_all (words_in_use unlinked (all_loaded state layout k.numbers))) (ExternalOf n) ≡ false
   none = sym (k.files.externals n m.small) ∙ m.absent
 

@@ -1,5 +1,5 @@
--- Where a folder can be written, an item whose record is alone in its chain can go out: the steps of the removal of its node, and then the word of its bucket.
--- So the laws on items that go out speak of something.
+-- Where a folder can be written, an item whose record is alone in its chain can be removed: the steps of the removal of its node, and then the word of its
+-- bucket. So the laws on items that are removed speak of something.
 use Rattle.std.proofs.Common.{◌≡◌, ⊎_elim, ℕ, ◌<◌, List, [], ◌∷◌, ◌++◌, refl, ap, sym, ◌∙◌, subst, arith, lit<, Bool, Option, Some, true, false}
 use Rattle.std.specs.Prelude.{◌&&◌, ◌==◌, filter}
 use Rattle.std.specs.Option.{option_map_or}
@@ -166,7 +166,7 @@ module _ (state : State) (layout : Layout) (keep : Item → Bool) (chains : ℕ 
   pub ready-out : IsWritable out
   ready-out = ready-now between well-between ready-between chains bucket was.contents alone whole-between
 
--- what goes out of a layout whose chains are its own is removed
+-- what is taken out of a layout whose chains are its own is removed
 pub out-removed : (layout : Layout) (item : Item) (was : Loaded) (from image : Image) → IsOneMoreOut layout layout.chains item was from image → IsRemoved layout item was from image
 out-removed layout item was from image out = record {
   removing = record { here = out.here; between = out.between; unlisted = out.unlisted; unlinking = out.unlinking };

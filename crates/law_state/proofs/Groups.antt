@@ -1,4 +1,4 @@
--- Several items go out of the LRU list and of the chains.
+-- Several items are removed from the LRU list and unlinked from the chains.
 use Rattle.std.proofs.Common.{◌≡◌, ℕ, ◌<◌, List, [], ◌∷◌, ◌++◌, refl, ap, sym, ◌∙◌, subst, Bool, true, false, Option, Some, None, ⊎_elim, append_assoc}
 use Rattle.std.specs.Prelude.{◌||◌, ◌&&◌, ◌==◌, not, filter, IfSome, if◌then◌else◌}
 use Rattle.std.specs.Option.{option_map_or}
@@ -44,7 +44,7 @@ use Rattle.law_state.proofs.Headers.{stand-same}
 use Rattle.law_state.proofs.NodeChanges.{all-to, first-of, is_dead, numbers-same}
 use Rattle.law_state.proofs.Touched.{to-front, words-append, words_at}
 
--- ---- words of items that stay and of items that go
+-- ---- words of items that stay and of items that are removed
 
 module _ (layout : Layout) (keep : Item → Bool) where
   abbrev w_of : List Item → List ℕ
@@ -132,7 +132,7 @@ module _ (state : State) (layout : Layout) (keep : Item → Bool) (numbers : Lis
   pub stays-in : (i : Item) → is_listed state i ≡ true → keep i ≡ true → is_among stay (layout.place i) ≡ true
   stays-in i there e = is_among-node layout (filter keep state.uses) i (in-filter keep state.uses i ∙ both e there)
 
-  -- those that stay are none of those that go
+  -- the items that stay are none of those that are removed
   pub stay-apart : (n : ℕ) → is_among stay n ≡ true → is_among gone n ≡ false
   stay-apart n there = ⊎_elim
       (λ (e : is_among gone n ≡ true).
@@ -188,7 +188,7 @@ module _ (state : State) (layout : Layout) (keep : Item → Bool) (numbers : Lis
   pub words-left : words_at (at_without layout gone) (stay ++ doomed_ones) ≡ words_at layout.at stay ++ words_at layout.at doomed_ones
   words-left = ap (flat_map words_of) (same-at layout gone (stay ++ doomed_ones) left-apart) ∙ words-append layout.at stay doomed_ones
 
-  -- the nodes that are left are those of the old ones that don't go
+  -- the nodes that are left are those of the old ones that aren't removed
   pub filtered : (items : List Item) → ((i : Item) → is_in items i ≡ true → is_listed state i ≡ true) → filter (λ n. not (is_among gone n)) (nodes_of layout items) ≡ nodes_of layout (filter keep items)
   filtered [] sub = refl
   filtered (i ∷ items) sub =
@@ -276,7 +276,7 @@ module _ (state : State) (layout : Layout) (unlinked : List ℕ) (keep : Item �
       rw none refl)
       (cases_Bool (has_claim (claims_of_all (words_at layout.at gone_ones)) c))
 
-  -- the words of what goes and the unlinked ones are valid, and no two of their blocks and external numbers are one
+  -- the words of what is removed and the unlinked ones are valid, and no two of their blocks and external numbers are one
   pub gone-stand : AllByRecursion (λ v. stands_in from v ≡ true) (words_at layout.at gone_ones ++ unlinked)
   gone-stand = first-of (λ v. stands_in from v ≡ true) (words_at layout.at gone_ones ++ unlinked) (words_at layout.at stay_ones ++ words_at layout.at dead_ones)
       (all-to (λ v. stands_in from v ≡ true) _ (All-permutation (λ v. stands_in from v ≡ true) _ _ all-words (all-from (λ v. stands_in from v ≡ true) _ (arranged-stand state layout k.numbers unlinked from before))))

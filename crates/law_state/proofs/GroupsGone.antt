@@ -1,4 +1,4 @@
--- An eviction unit that is evicted: an object that no handle names goes as it is doomed, and a part goes alone.
+-- An eviction unit that is evicted: an object that no handle names is removed as if it were doomed, and a part is evicted alone.
 use Rattle.std.proofs.Common.{◌≡◌, ◌≢◌, ℕ, zero, suc, ◌<◌, List, [], ◌∷◌, refl, ap, ap₂, sym, ◌∙◌, subst, Bool, true, false, arith, cond, get_or, set, Option, Some, None, ⊎_elim, not, length, map}
 use Rattle.std.specs.Prelude.{◌&&◌, ◌||◌, ◌==◌}
 use Rattle.std.specs.List.{filter}

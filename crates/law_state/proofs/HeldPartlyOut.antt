@@ -1,4 +1,4 @@
--- An object that a handle names goes out part after part, and is doomed.
+-- An object that a handle names is removed part after part, and is doomed.
 use Rattle.std.proofs.Common.{◌≡◌, ℕ, List, [], ◌∷◌, ◌++◌, refl, ap, sym, ◌∙◌, subst, true, false, Option, Some, None, ⊎_elim, append_assoc}
 use Rattle.std.specs.Prelude.{filter}
 use Rattle.std.specs.List.{AllByRecursion}
@@ -72,7 +72,7 @@ module _ (state : State) (layout : Layout) (number : ℕ) (object : Object) (l :
   apart : repeats (claims_of_all (words_of l) ++ claims_of_all unlinked) ≡ false
   apart = ap repeats (sym (flat_map-append claims_of (words_of l) unlinked)) ∙ h.keeps.single
 
-  -- the unlinked words are nobody's
+  -- what the unlinked words name has no owner
   free : (c : Claim) → has_claim (claims_of_all unlinked) c ≡ true → owners_without layout parts c ≡ None
   free c has = go (layout.owner c) refl where
     go : (q : Option ℕ) → layout.owner c ≡ q → owners_without layout parts c ≡ None

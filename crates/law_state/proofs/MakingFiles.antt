@@ -50,7 +50,7 @@ module _ (w : ℕ) (from image : Image) (a : AddsExternal from w image) (state :
   claimed : (c : Claim) → has_claim (claims_of w) c ≡ touched c
   claimed c = ap (λ (cs : List Claim). has_claim cs c) (its-claims w a.some a.external_kind) ∙ claim-head (ExternalOf (external_number w)) [] c ∙ ap (λ (t : Bool). touched c || t) (no-claim c) ∙ or-false (touched c)
 
-  -- which nobody had
+  -- the new number had no owner
   fresh : (c : Claim) → touched c ≡ true → has_claim (claims_of_all (words_in_use unlinked (all_loaded state layout k.numbers))) c ≡ false
   fresh (BlockOf n b) e = absurd (let z : false ≡ true = e in cc)
   fresh (ExternalOf m) e = subst (λ (x : ℕ). has_claim (claims_of_all (words_in_use unlinked (all_loaded state layout k.numbers))) (ExternalOf x) ≡ false) (sym (eqb-true m (external_number w) e)) (sym (k.files.externals (external_number w) a.small) ∙ a.absent)
@@ -181,7 +181,7 @@ module _ (w : ℕ) (from image : Image) (a : RemovesExternal from w image) (stat
   abbrev its_file : Claim → Bool
   its_file claim = same_claim claim (ExternalOf (external_number w))
 
-  -- the file is nobody's
+  -- the file has no owner
   gone-free : IsFree its_file layout
   gone-free claim node is = ⊎_elim
       (λ (e : its_file claim ≡ true).

@@ -45,7 +45,7 @@ module _ (state : State) (layout : Layout) (unlinked : List ℕ) (l : Loaded) (f
       (λ (e : (m == number) ≡ false). or_right (layout.place_of_doomed m == layout.place_of_doomed number) _ (among-doomed ns number (rw e at h)))
       (cases_Bool (m == number))
 
-  -- what is unlinked still is nobody's
+  -- what is unlinked still has no owner
   pub still-free : (claim : Claim) → has_claim (claims_of_all unlinked) claim ≡ true → (if has_claim (all_claims l) claim then Some l.node else layout.owner claim) ≡ None
   still-free claim e = go (has_claim (all_claims l) claim) refl where
     go : (t : Bool) → has_claim (all_claims l) claim ≡ t → (if t then Some l.node else layout.owner claim) ≡ None

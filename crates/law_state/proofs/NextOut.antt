@@ -1,4 +1,4 @@
--- One item more of a list goes out: which items and nodes are left.
+-- One item more of a list is removed: which items and nodes are left.
 use Rattle.std.proofs.Common.{◌≡◌, ℕ, List, ◌∷◌, ◌++◌, refl, ap, ◌∙◌, Bool, true}
 use Rattle.std.specs.Prelude.{filter, not}
 use Rattle.std.proofs.lemmas.List.Elements.{filter-append}

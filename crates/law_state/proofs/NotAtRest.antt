@@ -126,7 +126,7 @@ module _ (m : State) (valid : IsValidState m) (number : ℕ) (o : Object) (here 
             (λ (q : (eqb j number ≡ false) × (j ≢ number)). get_or-set_other m.objects number j (Some x) None q.1)
             (eqb_tells j number))
 
-    -- and nobody has anything durable of the object's
+    -- and no object has anything durable of this one's items
     row-none : (i : Item) → is_of_another o.key i ≡ false → settled_row (amidst m number x uses) i ≡ None
     unfolding settled_row
     row-none i its = go (owner (amidst m number x uses) i) refl

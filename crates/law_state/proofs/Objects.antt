@@ -97,7 +97,7 @@ module _ (state : State) (layout : Layout) (unlinked left : List ℕ) (from : Im
     as-claims : (ws : List ℕ) (l : Loaded) → claims_of_all (ws ++ words_of l) ≡ claims_of_all ws ++ all_claims l
     as-claims ws l = flat_map-append claims_of ws (words_of l) ∙ ap (λ (cs : List Claim). claims_of_all ws ++ cs) (words-claims l)
 
-  -- whose it was: nobody's, or the node's
+  -- who owned it: none, or the node
   was-whose : (c : Claim) → (has_claim (claims_of_all left) c || has_claim (all_claims now) c) ≡ true → (layout.owner c ≡ None) ⊎ (layout.owner c ≡ Some node)
   was-whose c e = ⊎_elim
       (λ (h : has_claim (claims_of_all unlinked) c ≡ true). inl (k.unlinked_words.free c h))

@@ -1,4 +1,4 @@
--- One item more goes out of the list and of its chain, while others of its object may be out already.
+-- One item more is removed from the list and unlinked from its chain, while others of its object may be out already.
 use Rattle.std.proofs.Common.{◌≡◌, ℕ, List, ◌∷◌, ◌++◌, refl, ap, sym, ◌∙◌, subst, arith, Bool, true, false, Option, Some, None, Ok, ⊎_elim, append_assoc}
 use Rattle.std.specs.Prelude.{◌&&◌, ◌||◌, ◌==◌, filter, if◌then◌else◌, not}
 use Rattle.std.specs.Option.{option_map_or}

@@ -55,7 +55,7 @@ orders-left state moment request first others valid is count within =
           ∙ ap (filter_map (picked state after (not closes))) (sym (after-first state moment request first others valid is count));
     }
 
--- all that is evicted goes first
+-- all that is evicted is removed first
 pub all-first : (state : State) (moment : ℕ) (request : Request) → refused moment request state ≡ None → EvictsFirst state moment request (evicted moment request state) []
 all-first state moment request passes = record { passes = passes; groups = sym (append-nil (evicted moment request state)) }
 

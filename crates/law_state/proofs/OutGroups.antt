@@ -1,4 +1,4 @@
--- An object that no handle names goes, part after part.
+-- An object that no handle names is removed, part after part.
 use Rattle.std.proofs.Common.{[], ◌∷◌, sym, ◌∙◌, subst, Some}
 use Rattle.blk_model.specs.Effects.{doomed}
 use Rattle.blk_model.specs.Room.{whole, without}

@@ -1,4 +1,4 @@
--- While items go out one after another, blocks of what is out are freed.
+-- While items are removed one after another, blocks of what is out are freed.
 use Rattle.std.proofs.Common.{◌≡◌, ℕ, ◌<◌, List, ◌∷◌, ap, sym, ◌∙◌, subst, Bool, true, false, Option, Some, None, ⊎_elim}
 use Rattle.std.specs.Prelude.{filter}
 use Rattle.std.proofs.lemmas.Bool.{and_parts, cases_Bool, eq-eqb, or_left, or_right}
@@ -126,7 +126,7 @@ module _ (state : State) (layout : Layout) (keep : Item → Bool) (chains : ℕ 
   its : (claim : Claim) → file claim ≡ true → has_claim (claims_of_all (w ∷ unlinked)) claim ≡ true
   its claim e = claim-append (claims_of w) (claims_of_all unlinked) claim ∙ or_left (has_claim (claims_of w) claim) (has_claim (claims_of_all unlinked) claim) (making.claims-it w from image a claim ∙ e)
 
-  -- it is nobody's that is left
+  -- what is freed belongs to nothing that is left
   file-apart : (claim : Claim) (node : ℕ) → layout.owner claim ≡ Some node → is_among (gone_nodes state layout keep) node ≡ false → file claim ≡ false
   file-apart claim node is stays = ⊎_elim
       (λ (e : file claim ≡ true). let z : ◌≡◌ {A = Option ℕ} None (Some node) = sym (k.free claim (its claim e)) ∙ groups.still-owned state layout keep k.numbers k.lies k.owners claim node is stays in absurd (cc))

@@ -1,4 +1,4 @@
--- Items go out one after another: the beginning and the end.
+-- Items are removed one after another: the beginning and the end.
 use Rattle.std.proofs.Common.{◌≡◌, ℕ, List, [], ◌∷◌, ◌++◌, refl, ap, sym, ◌∙◌, subst, Bool, true, false, Option, Some, None}
 use Rattle.std.specs.Prelude.{filter, not}
 use Rattle.spec_image.specs.Image.{Image, Index, byte}

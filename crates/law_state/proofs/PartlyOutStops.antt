@@ -1,4 +1,4 @@
--- What is found while an object goes out part after part.
+-- What is found while an object is removed part after part.
 use Rattle.std.proofs.Common.{◌≡◌, ℕ, List, [], ◌∷◌, refl, ap, sym, ◌∙◌, subst, Bool, true, false, Option, Some, None, ⊎_elim}
 use Rattle.std.proofs.lemmas.Bool.{and_parts, cases_Bool, eq-eqb, or_left}
 use Rattle.spec_image.specs.Image.{Image}

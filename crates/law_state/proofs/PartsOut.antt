@@ -1,4 +1,4 @@
--- A part that goes alone, at each word of its removal and from then on.
+-- A part that is evicted alone, at each word of its removal and from then on.
 use Rattle.std.proofs.Common.{◌≡◌, ℕ, List, [], ◌∷◌, map, refl, ap, sym, ◌∙◌, Bool, true, false}
 use Rattle.std.specs.Prelude.{◌&&◌, ◌||◌, if◌then◌else◌, nat_lt, not}
 use Rattle.std.specs.List.{filter, filter_map}

@@ -97,7 +97,7 @@ module _ (state : State) (number : ℕ) (object : Object) (valid : IsValidState 
       (λ (e : bytes_eq object.key k ≡ false). e)
       (cases_Bool (bytes_eq object.key k))
 
--- so without parts and handles it goes whole
+-- so without parts and handles an object is removed whole
 doomed-without : (state : State) (number : ℕ) (object : Object) → IsValidState state → object_at state number ≡ Some object → object.live ≡ true → object.parts ≡ [] → is_named state number ≡ false
     → IsWithout state (doomed number state (Some object)).objects (is_of_another object.key) (main object.key) × (doomed number state (Some object) ≡ without_items state (doomed number state (Some object)).objects (is_of_another object.key))
 doomed-without state number object valid here live none unnamed = unheld-go state number object valid here live unnamed

@@ -1,4 +1,4 @@
--- What goes from the back of a list once the first eviction units that are evicted are out of it: the others.
+-- What is evicted from the back of a list once the first eviction units that are evicted are out of it: the others.
 use Rattle.std.proofs.Common.{◌≡◌, ℕ, ◌+◌, ◌≤◌, Bool, true, false, not, ◌||◌, cond, List, [], ◌∷◌, ◌++◌, None, refl, ap, sym, ◌∙◌, subst, arith, ◌⊎◌, inl, inr, ⊎_elim, reverse, append_assoc}
 use Rattle.std.specs.List.{cons_option}
 use Rattle.std.specs.Str.{bytes_eq}
@@ -14,7 +14,7 @@ abbrev own_group : Item → List Item → Group
 own_group (main key) before = whole key (reverse (parts_among key before))
 own_group (part key n) before = single key n
 
--- what stays once it is gone
+-- what stays once the eviction unit is evicted
 abbrev next : (Item → Bool) → Item → Item → Bool
 next stays (main key) = λ other. stays other || bytes_eq key (key_of other)
 next stays (part key n) = stays
@@ -102,7 +102,7 @@ module _ (all : List Group) (i : Item) (before : List Item) (rest : Left all bef
         ∙ ap (λ (b : Bool). cond b (groups_from_back still (not_out all before)) (own_group i (not_out all before) ∷ groups_from_back (next still i) (not_out all before))) (g.same i out ∙ kept)
         ∙ rest first more stays still smaller e
 
-  -- an item that goes, once all first eviction units are out
+  -- an item that is evicted, once all first eviction units are out
   other-left : (more : List Group) (stays still : Item → Bool) → Going all [] stays still (i ∷ before) → stays i ≡ false → own_group i before ∷ groups_from_back (next stays i) before ≡ more → groups_from_back still (not_out all (i ∷ before)) ≡ more
   other-left more stays still g goes e =
       ap (λ (b : Bool). groups_from_back still (cond (not b) (i ∷ not_out all before) (not_out all before))) in-it
@@ -144,7 +144,7 @@ module _ (all : List Group) (i : Item) (before : List Item) (rest : Left all bef
         once = λ j. fewer j i before (g.once j);
       }
 
-  -- an item that goes with the first of the first eviction units
+  -- an item that is evicted with the first of the first eviction units
   first-left : (group : Group) (first more : List Group) (stays still : Item → Bool) → Going all (group ∷ first) stays still (i ∷ before) → stays i ≡ false → own_group i before ∷ groups_from_back (next stays i) before ≡ group ∷ first ++ more → groups_from_back still (not_out all (i ∷ before)) ≡ more
   first-left group first more stays still g goes e =
       ap (λ (b : Bool). groups_from_back still (cond (not b) (i ∷ not_out all before) (not_out all before))) (g.among i taken)
@@ -204,7 +204,7 @@ module _ (all : List Group) (i : Item) (before : List Item) (rest : Left all bef
     go true kept e = stays-left first more stays still g kept (sym (ap (λ (b : Bool). cond b (groups_from_back stays before) (own_group i before ∷ groups_from_back (next stays i) before)) kept) ∙ e)
     go false goes e = goes-left first g goes (sym (ap (λ (b : Bool). cond b (groups_from_back stays before) (own_group i before ∷ groups_from_back (next stays i) before)) goes) ∙ e)
 
--- without the first eviction units that are evicted, the others go
+-- without the first eviction units that are evicted, the others are evicted
 pub others-left : (all : List Group) (list : List Item) → Left all list
 unfolding groups_from_back
 others-left all [] = λ first more stays still g e. none-more first more e
@@ -218,7 +218,7 @@ same-shortest enough other done (group ∷ groups) same =
     ap (λ (b : Bool). cond b done (shortest enough (done ++ group ∷ []) groups)) (same done)
     ∙ ap (λ (gs : List Group). cond (other done) done gs) (same-shortest enough other (done ++ group ∷ []) groups same)
 
--- what goes after some that went
+-- what is evicted after some that were evicted
 after-done : (enough : List Group → Bool) (done gone groups : List Group) → shortest enough (done ++ gone) groups ≡ done ++ shortest (λ more. enough (done ++ more)) gone groups
 after-done enough done gone [] = refl
 after-done enough done gone (group ∷ groups) = go (enough (done ++ gone)) refl (after-done enough done (gone ++ group ∷ []) groups) where

@@ -24,7 +24,7 @@ use Rattle.law_state.proofs.NotAtRest.{within-slots}
 abbrev Parts : Type 0
 Parts = List (ℕ × PartValue)
 
--- ---- parts that are written, and parts that go
+-- ---- parts that are written, and parts that are evicted
 
 where_part : (ℕ → Bool) → Parts → Parts
 where_part p parts = filter (λ (e : ℕ × PartValue). p e.0) parts
@@ -79,7 +79,7 @@ written-beside p (n ∷ ns) offset bytes parts sorted all =
     written-beside p ns offset bytes (put nat_cmp n value parts) (is_sorted-put nat_cmp nat_cmp_total n value parts sorted) all.1
     ∙ put-beside p n value parts sorted all.0
 
--- so what a sum over the parts grows by is the same once those that aren't written are gone
+-- so what a sum over the parts grows by is the same once those that aren't written are evicted
 sums-grow : (f : ℕ × PartValue → ℕ) (p : ℕ → Bool) (ns : List ℕ) (offset : ℕ) (bytes : List ℕ) (parts : Parts) → T (is_sorted nat_cmp parts) → AllByRecursion (λ (n : ℕ). p n ≡ true) ns
     → sum_by f (parts_after ns offset bytes (where_part p parts)) + sum_by f parts ≡ sum_by f (parts_after ns offset bytes parts) + sum_by f (where_part p parts)
 unfolding where_part

@@ -1,4 +1,4 @@
--- Space on the state without the first eviction units: what is pinned is the same, and what goes until there is enough are the others.
+-- Space on the state without the first eviction units: what is pinned is the same, and what is evicted until there is enough are the others.
 use Rattle.std.proofs.Common.{◌≡◌, ℕ, suc, ◌+◌, ◌-◌, ◌/◌, ◌≤◌, Bool, true, false, not, ◌&&◌, ◌||◌, cond, List, [], ◌∷◌, ◌++◌, Some, None, Option, refl, ap, ap₂, sym, ◌∙◌, subst, arith, get_or, map, reverse, append-nil, ◌⊎◌, inl, inr}
 use Rattle.std.specs.List.{filter, list_any, AllByRecursion}
 use Rattle.std.specs.Option.{option_and_then, option_map_or}
@@ -50,7 +50,7 @@ then-cond : (f : Object → Option Object) (c : Bool) (object : Object) → opti
 then-cond f true object = refl
 then-cond f false object = refl
 
--- what is pinned of an object doesn't go
+-- what is pinned of an object isn't evicted
 stays-pinned : (live named out : Bool) (x y : Option Object) → x ≡ y → (named ≡ true → (live && out) ≡ false) → cond (live && out) None (cond (not live || named) x None) ≡ cond (not live || named) y None
 stays-pinned true true true x y e h = absurd (let z : true ≡ false = h refl in cc)
 stays-pinned true true false x y e h = e
@@ -84,7 +84,7 @@ module _ (state : State) (valid : IsValidState state) (covers : List Item) (grou
   pinned-item (main key) stays = ap (λ (o : Option ℕ). option_map_or (is_named state) o false) (first-same (group ∷ groups) (main key) 0 state.objects stays)
   pinned-item (part key n) stays = refl
 
-  -- what could go after the first eviction units
+  -- what may be evicted after the first eviction units
   groups-behind : (behind : List Group) → groups_from_back (is_pinned state covers) (reverse state.uses) ≡ (group ∷ groups) ++ behind → groups_from_back (is_pinned (without (group ∷ groups) state) covers) (reverse (without (group ∷ groups) state).uses) ≡ behind
   unfolding without
   groups-behind behind e =
@@ -102,7 +102,7 @@ module _ (state : State) (valid : IsValidState state) (covers : List Item) (grou
         once = λ item. subst (λ n. n ≤ 1) (sym (times-reverse item state.uses)) (valid.once item);
       }
 
-  -- until there is enough the others go
+  -- until there is enough the others are evicted
   pub others-go : (enough : State → Bool) (others : List Group) → evicted_until enough state covers ≡ (group ∷ groups) ++ others → evicted_until enough (without (group ∷ groups) state) covers ≡ others
   unfolding evicted_until
   others-go enough others e =

@@ -321,7 +321,7 @@ unfolding without
 trims-go-on state moment bytes [] others valid is none = sym is.groups ∙ none
 trims-go-on state moment bytes (group ∷ groups) others valid is none = sym (trim-exact state valid moment group groups bytes others is) ∙ none
 
--- where the rest goes on it evicts the others
+-- where the rest evicts anything it evicts the others
 others-exact : (state : State) (moment : ℕ) (request : Request) (first others : List Group) → IsValidState state → EvictsFirst state moment request first others → EvictsTheRest state moment request first others → evicted moment request (without first state) ≡ others
 others-exact state moment request first others valid is on =
     ⊎_elim (λ (e : evicted moment request (without first state) ≡ others). e) (λ (e : evicted moment request (without first state) ≡ []). e ∙ sym (on e)) (rests-evict state moment request first others valid is)

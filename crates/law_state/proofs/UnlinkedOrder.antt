@@ -1,4 +1,4 @@
--- Unlinked words may be in any order, in a kept state and while items go out.
+-- Unlinked words may be in any order, in a kept state and while items are removed.
 use Rattle.std.proofs.Common.{◌≡◌, ℕ, List, ◌∙◌, true}
 use Rattle.std.specs.List.{AllByRecursion, flat_map}
 use Rattle.std.specs.List.Sorted.{IsPermutation}

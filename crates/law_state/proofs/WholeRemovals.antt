@@ -1,4 +1,4 @@
--- An object goes with its parts.
+-- An object is removed with its parts.
 use Rattle.std.proofs.Common.{[], ◌∷◌, ◌++◌, sym, ◌∙◌, subst, Some}
 use Rattle.blk_model.specs.Effects.{doomed}
 use Rattle.blk_model.specs.Room.{whole, without}

@@ -1,4 +1,4 @@
--- In the worked folder a new object is made, whose record is in front of that of `b` in their bucket; then `b` goes, whose record is after it.
+-- In the worked folder a new object is made, whose record is in front of that of `b` in their bucket; then `b` is removed, whose record is after it.
 use Rattle.std.proofs.Common.{◌≡◌, ◌≢◌, ℕ, ◌<◌, List, [], ◌∷◌, ◌++◌, refl, ap, sym, ◌∙◌, subst, arith, lit<, None, Some, true, false, codes, replicate}
 use Rattle.std.specs.Prelude.{◌==◌, filter, not}
 use Rattle.spec_image.specs.Footprint.{SameOutside}
@@ -94,7 +94,7 @@ behind-two = record {
 behind : IsBehind two_layout.chains 0xA0E1 (records 3) (records 2)
 behind = subst (λ (chains : ℕ → List ℕ). IsBehind chains 0xA0E1 (records 3) (records 2)) (sym chains-are) behind-two
 
--- ---- the node of `b` goes out of the list
+-- ---- the node of `b` is removed from the list
 
 abbrev between : Image
 between = unlisted made_folder (nodes 2)
@@ -118,7 +118,7 @@ between-leaves : LeavesFiles made_folder between
 between-leaves = leaves-files (touch_range removal_writes (nodes 2)) made_folder between (touch_spares removal_writes (nodes 2)) (touch_sizes removal_writes (nodes 2)) outside
     (record { crash = counter-same removal_writes (nodes 2) made_folder between outside 32 (omega arith); id = counter-same removal_writes (nodes 2) made_folder between outside 20 (omega arith) }) b-unlisted.partly.headers
 
--- ---- its record goes out of its chain, from its place after the other
+-- ---- the record of `b` is unlinked, from its place after the other
 
 new-here : two_layout.at (nodes 3) ≡ Some fresh
 unfolding put

@@ -1,4 +1,4 @@
--- In the worked folder, while an external file is unlinked, `b` goes out, and then the file is deleted.
+-- In the worked folder, while an external file is unlinked, `b` is removed, and then the file is deleted.
 use Rattle.std.proofs.Common.{◌≡◌, ℕ, ◌<◌, List, [], ◌∷◌, ◌++◌, ◌≤◌, refl, sym, subst, lit<, false, true, Some, codes}
 use Rattle.std.proofs.lemmas.List.Sorted.{IsPermutation-append_comm}
 use Rattle.spec_image.specs.Bytes.{resized, word_bytes, zeros}
@@ -32,7 +32,7 @@ use Rattle.law_state.proofs.WorkedKept.{worked_folder}
 use Rattle.law_state.proofs.WorkedRemovals.{alone_b, worked-writable}
 use Rattle.law_state.proofs.WorkedState.{chain_of, nodes, plain_object, records, the_plain, worked, worked_layout}
 
--- ---- `b` goes out
+-- ---- `b` is removed
 
 empty-bytes : AreBytes with_empty
 unfolding resized zeros worked_folder short_folder

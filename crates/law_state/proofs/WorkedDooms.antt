@@ -1,4 +1,4 @@
--- In the worked folder, once `a` and `b` are open, each is doomed: its items go out, and its record has state 2.
+-- In the worked folder, once `a` and `b` are open, each is doomed: its items are removed, and its record has state 2.
 use Rattle.std.proofs.Common.{◌≡◌, ◌⊎◌, inl, inr, ⊎_elim, ℕ, List, [], ◌∷◌, ◌++◌, refl, ap, sym, ◌∙◌, subst, arith, Bool, true, false, None, Ok, Some, codes, replicate}
 use Rattle.std.specs.Prelude.{◌==◌}
 use Rattle.std.specs.List.{AllByRecursion}

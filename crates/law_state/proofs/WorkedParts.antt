@@ -1,4 +1,4 @@
--- In the worked folder `a` is dirty, its part goes, and is made again in its blocks, which are unlinked then.
+-- In the worked folder `a` is dirty, its part is removed, and is made again in its blocks, which are unlinked then.
 use Rattle.std.proofs.Common.{◌≡◌, inl, inr, ℕ, List, [], ◌∷◌, ◌++◌, refl, ap, sym, ◌∙◌, subst, arith, lit<, lit≤, Bool, true, false, None, Ok, Option, Some, codes}
 use Rattle.std.specs.Prelude.{◌||◌, if◌then◌else◌, map, nat_lt, slice_set}
 use Rattle.spec_image.specs.Footprint.{SameOutside}
@@ -102,7 +102,7 @@ pub unsettled-keeps : Keeps unsettled dirty_layout [] dirty_folder
 unsettled-keeps = marking-counts both worked_layout [] both_folder dirty_folder 1 sparse_object the_parent 7 both-keeps (record { here = refl; live = refl; at = refl })
     (marked-valid both 1 sparse_object false both-keeps.entries.valid refl refl (λ e. refl)) (λ some. sym both-id) a_is_marked
 
--- ---- its part goes
+-- ---- the part of `a` is removed
 
 all-there : KeepsPartlyOut unsettled dirty_layout (λ item. true) chain_of [] dirty_folder
 all-there = kept-begin unsettled dirty_layout [] dirty_folder unsettled-keeps.entries

@@ -1,4 +1,4 @@
--- In the worked folder items go out: `b`, and so a DoomKey of it; the part alone; and `a`, whose main item and part go out one after the other.
+-- In the worked folder items are removed: `b`, and so a DoomKey of it; the part alone; and `a`, whose main item and part are removed one after the other.
 use Rattle.std.proofs.Common.{◌≡◌, ℕ, zero, suc, ◌<◌, ◌≤◌, List, [], ◌∷◌, ◌++◌, refl, sym, ◌∙◌, subst, arith, lit<, lit≤, Bool, true, false, Some, codes}
 use Rattle.std.specs.Prelude.{if◌then◌else◌, ◌==◌, filter, not}
 use Rattle.spec_image.specs.Bytes.{zeros}
@@ -151,7 +151,7 @@ alone_last = record {
   others = λ other apart. each-chain (IsSameWithout (λ w. not (w == records 1)) (records 0)) other (λ e. not-both e apart) (λ e. refl) (λ e. refl) refl;
 }
 
--- ---- `b` goes
+-- ---- `b` is removed
 
 abbrev all_kept : KeepsPartlyOut worked worked_layout (λ item. true) chain_of [] worked_folder
 all_kept = kept-begin worked worked_layout [] worked_folder worked-keeps.entries
@@ -180,7 +180,7 @@ b_is_gone = doomed-removed worked worked_layout [] worked_folder without_b 0 pla
 b_is_doomed : KeepsUncounted (step worked 100 (to_doom_key (codes "b"))).state (layout_removed worked_layout (nodes 2) (records 2)) (words_of the_plain ++ []) without_b
 b_is_doomed = unheld-dooms-end worked 100 (to_doom_key (codes "b")) worked_layout [] worked_folder without_b 0 plain_object the_plain worked-keeps.entries (unfold computing in refl) (unfold computing in refl) refl refl refl refl removed_b
 
--- and the eviction unit of it is gone
+-- and the eviction unit of `b` is out
 none-gone : worked ≡ without [] worked
 unfolding computing
 none-gone = refl
@@ -195,7 +195,7 @@ b_goes_whole = (unheld-go worked 0 plain_object worked-keeps.entries.valid refl 
 b_is_removed : KeepsUncounted (without_items worked (doomed 0 worked (Some plain_object)).objects (is_of_another (codes "b"))) (layout_removed worked_layout (nodes 2) (records 2)) (words_of the_plain ++ []) without_b
 b_is_removed = removed-unlinked worked worked_layout [] (doomed 0 worked (Some plain_object)).objects (is_of_another (codes "b")) (main (codes "b")) the_plain worked_folder removed_b.removing.between without_b worked-keeps.entries b_goes_whole refl removed_b.removing.unlisted removed_b.removing.unlinking removed_b.leaves removed_b.sealed
 
--- ---- the part goes alone
+-- ---- the part is evicted alone
 
 abbrev without_part : Image
 without_part = unchained (unlisted worked_folder (nodes 1)) 0xB6C
@@ -228,7 +228,7 @@ part_is_out = record {
 out_is_gone : Finds (rest (without (single (codes "a") 0 ∷ []) worked)) (unlisted worked_folder (nodes 1))
 out_is_gone = part-out worked worked_layout (codes "a") 0 (unlisted worked_folder (nodes 1)) worked-keeps.entries.valid part_is_out
 
--- ---- `a` goes, its main item first
+-- ---- `a` is removed, its main item first
 
 abbrev pub without_main : Image
 without_main = unchained (unlisted worked_folder (nodes 0)) 0xA782
@@ -272,7 +272,7 @@ a-writable = ready-out worked worked_layout but_main (chains_but chain_of (recor
 follows-unlisted : IsRemovalDone without_main (nodes 1) (unlisted without_main (nodes 1))
 follows-unlisted = out-of-list worked worked_layout but_main (chains_but chain_of (records 0)) (words_of the_parent ++ []) without_main main_is_out main-writable (part (codes "a") 0) the_part refl [] (nodes 2 ∷ []) refl 0xB6C alone_after
 
--- while it goes, the durable contents with `a` doomed are recovered
+-- while `a` is removed, the durable contents with `a` doomed are recovered
 next_part_finds : Finds (rest (doomed 1 worked (Some sparse_object))) (unlisted without_main (nodes 1))
 next_part_finds = next-parts-find worked worked_layout 1 sparse_object but_main (chains_but chain_of (records 0)) (words_of the_parent ++ []) 0 without_main (unlisted without_main (nodes 1)) refl main_leaves_others main_is_out refl refl follows-unlisted.partly
 

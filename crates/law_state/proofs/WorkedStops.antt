@@ -1,4 +1,4 @@
--- In the worked folder requests may crash: an Open, a Read, and a Doom, and while an item goes out.
+-- In the worked folder requests may crash: an Open, a Read, and a Doom, and while an item is removed.
 use Rattle.std.proofs.Common.{◌≡◌, [], ◌∷◌, refl, sym, subst, lit<, false, None, Some, codes, true}
 use Rattle.std.specs.Prelude.{if◌then◌else◌, nat_lt, slice_set}
 use Rattle.spec_image.specs.Image.{Image}
@@ -114,7 +114,7 @@ still_chained = record {
 chained_finds : Finds (rest (doomed 0 worked (Some plain_object))) (unlisted worked_folder (nodes 2))
 chained_finds = (removing-doomed worked worked_layout [] worked_folder (unlisted worked_folder (nodes 2)) 0 plain_object the_plain worked-keeps.entries refl refl refl refl).0 still_chained
 
--- it is while items go out one after another
+-- the folder is as while items are removed one after another
 unlinking_finds : Finds (rest (doomed 0 worked (Some plain_object))) (unlisted worked_folder (nodes 2))
 unfolding still_chained
 unlinking_finds = unlinking-items-find worked worked_layout 0 plain_object (λ item. true) chain_of [] (main (codes "b")) worked_folder (unlisted worked_folder (nodes 2)) (unlisted worked_folder (nodes 2)) refl (own-items-leave (codes "b")).0

@@ -33,7 +33,7 @@ UnlinkedPlacesMayChange = (touched : Claim → Bool) (words : List ℕ) (from im
 abbrev pub BlockWritesChangeOnly : Type 0
 BlockWritesChangeOnly = (from image : Image) (w at n : ℕ) → stands_in from w ≡ true → kind_of w ≢ external → place w ≤ at → at + n ≤ place w + byte_size w → SameOutside (range (Block (file_selector w)) at n) from image → ChangesOnly (has_claim (claims_of w)) from image
 
--- a change of an external file's bytes and length, by which it neither comes nor goes, changes this file only
+-- a change of an external file's bytes and length, by which it is neither made nor deleted, changes this file only
 abbrev pub ExternalWritesChangeOnly : Type 0
 ExternalWritesChangeOnly = (from image : Image) (n : ℕ) → SameOutside (whole (External n)) from image → has_file image (External n) ≡ has_file from (External n) → ChangesOnly (λ claim. same_claim claim (ExternalOf n)) from image
 

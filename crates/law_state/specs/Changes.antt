@@ -116,7 +116,7 @@ pub record RemovesAllocation (from : Image) (w : ℕ) (image : Image) : Type 0 w
 
 -- External files.
 
--- the external file of a word is made: it wasn't there, and is there now, and no other file and no block comes or goes
+-- the external file of a word is made: it wasn't there, and is there now, and no other file and no block is made or removed
 pub record AddsExternal (from : Image) (w : ℕ) (image : Image) : Type 0 where
   pub some : (w == 0) ≡ false
   pub external_kind : (kind_of w == external) ≡ true
@@ -130,7 +130,7 @@ pub record AddsExternal (from : Image) (w : ℕ) (image : Image) : Type 0 where
   pub session : SameSession from image
   pub blocks : (n : ℕ) → StaysLinked from image n
 
--- the external file of a word is deleted, and no other file and no block comes or goes
+-- the external file of a word is deleted, and no other file and no block is made or removed
 pub record RemovesExternal (from : Image) (w : ℕ) (image : Image) : Type 0 where
   pub some : (w == 0) ≡ false
   pub external_kind : (kind_of w == external) ≡ true

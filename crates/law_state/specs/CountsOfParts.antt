@@ -24,7 +24,7 @@ use Rattle.law_state.specs.WholeRemovals.{layout_doomed_whole}
 abbrev pub charges_at : Layout → List ℕ → ℕ
 charges_at layout nodes = sum_by charge_of (loaded_at layout nodes)
 
--- a later state and layout have fewer items, and a smaller sum of costs, than those before: what is missing is the number and the costs of the items gone
+-- a later state and layout have fewer items, and a smaller sum of costs, than those before: what is missing is the number and the costs of the removed items
 pub record IsLessBy (gone : Item → Bool) (state : State) (layout : Layout) (after : State) (now : Layout) : Type 0 where
   pub items : length after.uses + length (filter gone state.uses) ≡ length state.uses
   pub bytes : charges_at now (order after now) + charges_at layout (nodes_of layout (filter gone state.uses)) ≡ charges_at layout (order state layout)
@@ -41,12 +41,12 @@ DoomedItemsAreLess =
     → IsLayoutOf state layout → AreOwners state layout numbers → IsPlacedAsLive state layout number object loaded → is_named state number ≡ true
     → IsLessBy (λ item. not (is_of_another object.key item)) state layout (doomed number state (Some object)) (layout_doomed_whole state layout number object.key chains)
 
--- one item more goes out of those still listed: they are one item less, and the sum of their costs is less by its cost
+-- one item more is removed from those still listed: they are one item less, and the sum of their costs is less by its cost
 pub record IsNextLess (state : State) (layout : Layout) (keep : Item → Bool) (item : Item) (was : Loaded) : Type 0 where
   pub items : length (filter (keeps_but keep item) state.uses) + 1 ≡ length (filter keep state.uses)
   pub bytes : charges_at layout (nodes_of layout (filter (keeps_but keep item) state.uses)) + charge_of was ≡ charges_at layout (nodes_of layout (filter keep state.uses))
 
--- while items go out one after another, each makes those still listed one item less, and the sum of their costs less by its cost
+-- while items are removed one after another, each makes those still listed one item less, and the sum of their costs less by its cost
 abbrev pub NextItemsAreOneLess : Type 0
 NextItemsAreOneLess = (state : State) (layout : Layout) (keep : Item → Bool) (item : Item) (was : Loaded) → IsValidState state → is_listed state item ≡ true → keep item ≡ true → layout.at (layout.place item) ≡ Some was → IsNextLess state layout keep item was
 

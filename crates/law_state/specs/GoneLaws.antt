@@ -14,11 +14,11 @@ use Rattle.law_state.specs.CommandStates.{with_names}
 use Rattle.law_state.specs.Keeping.{Keeps, KeepsUncounted}
 use Rattle.law_state.specs.ObjectLaws.{is_owned_by}
 
--- the owners of a layout, but that what was a node's is nobody's
+-- the owners of a layout, but that what was a node's has no owner
 abbrev pub owner_without : Layout → ℕ → Claim → Option ℕ
 owner_without layout node claim = if is_owned_by node (layout.owner claim) then None else layout.owner claim
 
--- the layout with nothing at a node, and what was the node's is nobody's
+-- the layout with nothing at a node, and what was the node's without an owner
 abbrev pub layout_without : Layout → ℕ → Layout
 layout_without layout node = emptied_at layout node (owner_without layout node)
 

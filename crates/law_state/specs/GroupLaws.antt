@@ -1,4 +1,4 @@
--- Several items go out of the LRU list and of the chains, as an object with its parts: their words are unlinked then.
+-- Several items are removed from the LRU list and unlinked from the chains, as an object with its parts: their words are unlinked then.
 use Rattle.std.specs.Prelude.{◌≡◌, ℕ, ◌<◌, List, ◌++◌, Bool, true, false, not, ◌==◌, filter, if◌then◌else◌}
 use Rattle.std.specs.List.{flat_map}
 use Rattle.std.specs.Option.{option_map_or}
@@ -25,15 +25,15 @@ use Rattle.law_state.specs.Keeping.{KeepsUncounted}
 abbrev pub gone_nodes : State → Layout → (Item → Bool) → List ℕ
 gone_nodes state layout keep = nodes_of layout (filter (λ item. not (keep item)) state.uses)
 
--- what a layout has at its nodes, but for those that are gone
+-- what a layout has at its nodes, but for those that are removed
 abbrev pub at_without : Layout → List ℕ → ℕ → Option Loaded
 at_without layout gone node = if is_among gone node then None else layout.at node
 
--- the owners of a layout, but that what was of nodes that are gone is nobody's
+-- the owners of a layout, but that what was of removed nodes has no owner
 abbrev pub owners_without : Layout → List ℕ → Claim → Option ℕ
 owners_without layout gone claim = if option_map_or (is_among gone) (layout.owner claim) false then None else layout.owner claim
 
--- the layout without the nodes that are gone, with other chains
+-- the layout without the removed nodes, with other chains
 abbrev pub layout_less : Layout → List ℕ → (ℕ → List ℕ) → Layout
 layout_less layout gone chains = placed_less layout (at_without layout gone) chains (owners_without layout gone)
 

@@ -1,5 +1,5 @@
--- An object with parts that a handle names, all of whose items went out one after another, its parts freed or not: once its record is that of a doomed object,
--- it is kept as one.
+-- An object with parts that a handle names, all of whose items were removed one after another, its parts freed or not: once its record is that of a doomed
+-- object, it is kept as one.
 use Rattle.std.specs.Prelude.{◌≡◌, ℕ, List, ◌++◌, true}
 use Rattle.std.specs.declared.option.Option.TheVariants.{None, Some}
 use Rattle.std.specs.declared.result.Result.TheVariants.{Ok}

@@ -26,7 +26,7 @@ use Rattle.spec_folder.specs.View.{list_of, store_of}
 use Rattle.law_state.specs.Changes.{Finds}
 use Rattle.law_state.specs.Keeping.{KeepsUncounted}
 
--- an entry is written: it loads as a new object of a key that no live object has, its record goes in front of its chain, it has its checksums, its dirty flag
+-- an entry is written: it loads as a new object of a key that no live object has, its record comes in front of its chain, it has its checksums, its dirty flag
 -- is the number of the session, and the list has space for it
 pub record IsNewEntryOf (state : State) (layout : Layout) (key : List ℕ) (loaded : Loaded) (image : Image) : Type 0 where
   pub entry : IsNewEntry (store_of image) layout key loaded

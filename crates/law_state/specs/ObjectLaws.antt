@@ -1,4 +1,4 @@
--- What lies at the node of an item or of a doomed object changes: its record, its data, its storage; or it goes.
+-- What lies at the node of an item or of a doomed object changes: its record, its data, its storage; or it is removed.
 use Rattle.std.specs.Prelude.{◌≡◌, ℕ, List, ◌++◌, Bool, true, false, ◌==◌, if◌then◌else◌, slice_set}
 use Rattle.std.specs.Option.{option_map_or}
 use Rattle.std.specs.List.Sorted.{IsPermutation}

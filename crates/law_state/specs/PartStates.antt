@@ -1,4 +1,4 @@
--- The states inside a sparse write: one part of an object changed, one more, or one that goes. Each is a premise of the laws on changed and new items.
+-- The states inside a sparse write: one part of an object changed, one more, or one that is removed. Each is a premise of the laws on changed and new items.
 use Rattle.std.specs.Prelude.{◌≡◌, ℕ, ◌<◌, true, false, Some, is_some, not, slice_set}
 use Rattle.std.specs.Ordering.{nat_cmp}
 use Rattle.std.specs.FinMap.{put}

@@ -1,4 +1,5 @@
--- Items go out one after another, each freed after it, while others of their object are still listed: what the folder keeps between, where no state is kept.
+-- Items are removed one after another, each freed after it, while others of their object are still listed: what the folder keeps between, where no state is
+-- kept.
 use Rattle.std.specs.Prelude.{◌≡◌, ℕ, ◌<◌, List, [], ◌∷◌, ◌++◌, Bool, true, false, ◌==◌, ◌&&◌, filter, not}
 use Rattle.std.specs.List.{AllByRecursion}
 use Rattle.std.specs.List.Sorted.{IsPermutation}

@@ -1,4 +1,4 @@
--- What is found while an object goes out part after part, and where a request may crash then.
+-- What is found while an object is removed part after part, and where a request may crash then.
 use Rattle.std.specs.Prelude.{◌≡◌, ℕ, List, ◌∷◌, Bool, false, true}
 use Rattle.std.specs.declared.option.Option.TheVariants.{None, Some}
 use Rattle.blk_model.specs.Effects.{doomed}
@@ -38,7 +38,7 @@ abbrev pub PartlyOutIsOut : Type 0
 PartlyOutIsOut = (state : State) (layout : Layout) (key : List ℕ) (keep : Item → Bool) (chains : ℕ → List ℕ) (unlinked : List ℕ) (image : Image) → LeavesOtherKeys key keep → KeepsPartlyOut state layout keep chains unlinked image
     → IsOut state (record layout { chains = chains }) key keep image
 
--- the durable contents with an object doomed are held while its main item is out and its parts go out one after another
+-- the durable contents with an object doomed are held while its main item is out and its parts are removed one after another
 abbrev pub PartlyOutFindsDoomed : Type 0
 PartlyOutFindsDoomed = (state : State) (layout : Layout) (number : ℕ) (object : Object) (keep : Item → Bool) (chains : ℕ → List ℕ) (unlinked : List ℕ) (image : Image) → object_at state number ≡ Some object → LeavesOtherKeys object.key keep
     → KeepsPartlyOut state layout keep chains unlinked image → Finds (rest (doomed number state (Some object))) image
@@ -48,7 +48,7 @@ abbrev pub NextPartsFindDoomed : Type 0
 NextPartsFindDoomed = (state : State) (layout : Layout) (number : ℕ) (object : Object) (keep : Item → Bool) (chains : ℕ → List ℕ) (unlinked : List ℕ) (n : ℕ) (from image : Image) → object_at state number ≡ Some object → LeavesOtherKeys object.key keep
     → KeepsPartlyOut state layout keep chains unlinked from → is_listed state (part object.key n) ≡ true → keep (part object.key n) ≡ true → IsMidRemoval layout (part object.key n) from image → Finds (rest (doomed number state (Some object))) image
 
--- the durable contents with an object doomed are held while the record of its next item, the main one or a part, goes out of its chain, before it has
+-- the durable contents with an object doomed are held while the record of its next item, the main one or a part, is unlinked, before it has
 abbrev pub UnlinkingItemsFindsDoomed : Type 0
 UnlinkingItemsFindsDoomed = (state : State) (layout : Layout) (number : ℕ) (object : Object) (keep : Item → Bool) (chains : ℕ → List ℕ) (unlinked : List ℕ) (item : Item) (from between image : Image) → object_at state number ≡ Some object → LeavesOtherKeys object.key (keeps_but keep item)
     → KeepsPartlyOut state layout keep chains unlinked from → is_listed state item ≡ true → keep item ≡ true → IsRemovalDone from (layout.place item) between → IsUnlinking (record layout { chains = chains }) chains between image

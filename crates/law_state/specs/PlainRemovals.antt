@@ -1,4 +1,4 @@
--- A plain object that no handle names, and a part that goes alone: where each is removed, and what is kept then.
+-- A plain object that no handle names, and a part that is evicted alone: where each is removed, and what is kept then.
 use Rattle.std.specs.Prelude.{◌≡◌, ℕ, List, [], ◌∷◌, ◌++◌, None, Some, false, is_some, not, slice_set, true}
 use Rattle.blk_model.specs.Effects.{doomed}
 use Rattle.blk_model.specs.Items.{Item, main, part, same_item}
@@ -21,7 +21,7 @@ use Rattle.law_state.specs.DoomLaws.{CanBeDoomed, IsUnchained, layout_doomed}
 use Rattle.law_state.specs.CommandEnds.{without_part}
 use Rattle.law_state.specs.RemovalLaws.{IsRemovalDone, IsUnlinking, IsWithout, chains_without, layout_removed}
 
--- the state without a part that goes alone has its object without the part, and is the one without the part's eviction unit
+-- the state without a part that is evicted alone has its object without the part, and is the one without the part's eviction unit
 abbrev pub PartGoneIsWithout : Type 0
 PartGoneIsWithout = (state : State) (number n : ℕ) (object : Object) → IsValidState state → object_at state number ≡ Some object → object.live ≡ true → is_some (part_at object n) ≡ true
     → IsWithout state (slice_set state.objects number (Some (without_part object n))) (λ item. not (same_item item (part object.key n))) (part object.key n)
@@ -29,7 +29,7 @@ PartGoneIsWithout = (state : State) (number n : ℕ) (object : Object) → IsVal
 
 -- An object or a part that is removed: its item out of the list, and its record out of its chain.
 
--- an item is being removed: its node is out of the list, and its record is going out of its chain; the chains are these now
+-- an item is being removed: its node is out of the list, and its record is being unlinked; the chains are these now
 pub record IsRemoving (layout : Layout) (item : Item) (was : Loaded) (chains : ℕ → List ℕ) (from image : Image) : Type 0 where
   pub here : layout.at (layout.place item) ≡ Some was
   pub between : Image
@@ -42,7 +42,7 @@ pub record IsRemoved (layout : Layout) (item : Item) (was : Loaded) (from image 
   pub leaves : LeavesFiles removing.between image
   pub sealed : (node : ℕ) (loaded : Loaded) → layout.at node ≡ Some loaded → AreSealed removing.between loaded → AreSealed image loaded
 
--- while the record of an object without parts and without a handle goes out of its chain, the durable contents with it doomed are held, before the word
+-- while the record of an object without parts and without a handle is unlinked, the durable contents with it doomed are held, before the word
 -- that takes it out and from then on
 abbrev pub RemovingFindsDoomed : Type 0
 RemovingFindsDoomed = (state : State) (layout : Layout) (unlinked : List ℕ) (from image : Image) (number : ℕ) (object : Object) (was : Loaded) → KeepsUncounted state layout unlinked from → object_at state number ≡ Some object → object.live ≡ true → object.parts ≡ [] → is_named state number ≡ false
@@ -56,12 +56,12 @@ DoomedObjectsAreRemoved =
     → is_named state number ≡ false
     → IsRemoved layout (main object.key) was from image → KeepsUncounted (doomed number state (Some object)) (layout_removed layout (layout.place (main object.key)) was.contents) (words_of was ++ unlinked) image
 
--- while the record of a part that goes alone goes out of its chain, the durable contents without the part are held
+-- while the record of a part that is evicted alone is unlinked, the durable contents without the part are held
 abbrev pub RemovingFindsPartGone : Type 0
 RemovingFindsPartGone = (state : State) (layout : Layout) (unlinked : List ℕ) (from image : Image) (number n : ℕ) (object : Object) (was : Loaded) → KeepsUncounted state layout unlinked from → object_at state number ≡ Some object → object.live ≡ true → is_some (part_at object n) ≡ true
     → (IsRemoving layout (part object.key n) was layout.chains from image → Finds (rest (without (single object.key n ∷ []) state)) image) × (IsRemoving layout (part object.key n) was (chains_without layout was.contents) from image → Finds (rest (without (single object.key n ∷ []) state)) image)
 
--- once a part that goes alone is removed, the state without it is kept but for the counters, and its words are unlinked
+-- once a part that is evicted alone is removed, the state without it is kept but for the counters, and its words are unlinked
 abbrev pub LonePartsAreRemoved : Type 0
 LonePartsAreRemoved = (state : State) (layout : Layout) (unlinked : List ℕ) (from image : Image) (number n : ℕ) (object : Object) (was : Loaded) → KeepsUncounted state layout unlinked from → object_at state number ≡ Some object → object.live ≡ true → is_some (part_at object n) ≡ true
     → IsRemoved layout (part object.key n) was from image → KeepsUncounted (without (single object.key n ∷ []) state) (layout_removed layout (layout.place (part object.key n)) was.contents) (words_of was ++ unlinked) image

@@ -1,4 +1,4 @@
--- One item goes out of the LRU list and out of its chain, and its words are unlinked then.
+-- One item is removed from the LRU list and unlinked from its chain, and its words are unlinked then.
 use Rattle.std.specs.Prelude.{◌≡◌, ℕ, ◌<◌, List, ◌++◌, ◌∷◌, Bool, true, false, not, ◌==◌, nat_lt, if◌then◌else◌, filter}
 use Rattle.std.specs.declared.option.Option.{Option}
 use Rattle.std.specs.declared.option.Option.TheVariants.{None, Some}
@@ -72,7 +72,7 @@ pub record IsUnlinking (layout : Layout) (chains : ℕ → List ℕ) (from image
   pub whole : (other : ℕ) → other < table_length → IsChain (store_of image) other (chains other)
   pub headers : KeepsHeaders from image
 
--- while the record of an item that is out of the list goes out of its chain, the durable contents without the item are held
+-- while the record of an item that is out of the list is unlinked, the durable contents without the item are held
 abbrev pub UnlinkingFindsTheOthers : Type 0
 UnlinkingFindsTheOthers =
     (state : State) (layout : Layout) (unlinked : List ℕ) (objects : List (Option Object)) (keep : Item → Bool) (item : Item) (was : Loaded) (from between image : Image)

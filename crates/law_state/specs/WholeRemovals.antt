@@ -1,4 +1,4 @@
--- An object that goes with its parts: where all its items are out, and what is kept then.
+-- An object that is removed with its parts: where all its items are out, and what is kept then.
 use Rattle.std.specs.Prelude.{◌≡◌, ℕ, ◌<◌, List, [], ◌∷◌, ◌++◌, ◌==◌, ◌||◌, Bool, None, Some, false, filter, true}
 use Rattle.std.specs.List.{flat_map}
 use Rattle.std.specs.declared.result.Result.TheVariants.{Ok}
@@ -49,9 +49,9 @@ UnheldWholeDoomsEnd = (state : State) (moment : ℕ) (request : Request) (layout
     → object_at state number ≡ Some object → object.live ≡ true → is_named state number ≡ false → IsWholeOut state layout object.key chains from image
     → KeepsUncounted (step state moment request).state (layout_without_key state layout object.key chains) (words_of_key state layout object.key ++ unlinked) image
 
--- An object that a handle names: its parts go, and its node and its record stay.
+-- An object that a handle names: its parts are removed, and its node and its record stay.
 
--- whether an item stays while the parts of a key go
+-- whether an item stays while the parts of a key are removed
 abbrev pub is_no_part_of : List ℕ → Item → Bool
 is_no_part_of key item = is_of_another key item || same_item (main key) item
 

@@ -96,7 +96,7 @@ abbrev pub DoomsMayStop : Type 0
 DoomsMayStop = (state : State) (moment : ℕ) (request : Request) (number : ℕ) (object : Object) (before : Bool) (image : Image) → IsValidState state → IsRequest request → refused moment request state ≡ None → IsDoomOf request state number → object_at state number ≡ Some object
     → Finds (if before then rest state else rest (doomed number state (Some object))) image → MayStop state moment request image
 
--- Parts that go alone.
+-- Parts that are evicted alone.
 
 -- at each word of the removal of a part the old durable contents are held, and from the second write on the durable contents without the part
 abbrev pub PartsFindEither : Type 0

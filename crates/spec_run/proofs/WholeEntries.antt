@@ -328,7 +328,7 @@ entries_are_whole from image opened state commands steps command crash valid row
 
 -- An object that a command makes.
 
--- before a Create no item of the new object was listed
+-- before the command no object had an item of the new one
 fresh_item : (state : State) (valid : IsValidState state) (command : Stamped) (item : Item) (n m : ℕ) → owner (state_then state command) item ≡ Some n → object_at state n ≡ None → owner state item ≡ Some m → ⊥
 fresh_item state valid command item n m owned_after none owned =
     let after = state_then state command in

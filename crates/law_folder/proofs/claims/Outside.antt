@@ -160,7 +160,7 @@ list-outside touched l k nodes same clear list = record {
   no_zero = sym (same.checks 0 (clear-zero touched)) ∙ list.no_zero;
 }
 
--- A change inside a footprint that is nobody's keeps what a view represents.
+-- A change inside a footprint without an owner keeps what a view represents.
 pub represents-outside : (touched : Claim → Bool) (v u : View) (m : State) (y : Layout) → SameBut touched v u → IsFree touched y → Represents v m y → Represents u m y
 represents-outside touched v u m y same free r = record {
   holds = record { shows = shows-outside touched v.store u.store same.store same.table y r.holds.shows (clear-at touched m y free r.holds.lies) (clear-chain touched m y free r.holds.lies); lies = r.holds.lies };

@@ -69,7 +69,7 @@ module _ (m : State) (y : Layout) (r : IsLayoutOf m y) (v : StoreView) (handle :
   after : State
   after = created handle key m
 
-  -- the key is nobody's, so its item is not listed
+  -- no object has the key, so its item is not listed
   unlisted : is_listed m (main key) ≡ false
   unfolding model.row_of
   unlisted = ⊎_elim
@@ -100,7 +100,7 @@ module _ (m : State) (y : Layout) (r : IsLayoutOf m y) (v : StoreView) (handle :
     at-length : get_or (m.objects ++ Some (new_object key) ∷ []) (0 + length m.objects) None ≡ Some (new_object key)
     at-length = ap (λ (k : ℕ). get_or (m.objects ++ Some (new_object key) ∷ []) k None) (let e : 0 + length m.objects ≡ length m.objects = omega arith in e) ∙ push_at m.objects (Some (new_object key))
 
-  -- an item that nobody had and that isn't the new one is nobody's still
+  -- an item that no object had and that isn't the new one has no object still
   absent : (i : Item) (start : ℕ) (slots : List (Option Object)) → same_item i (main key) ≡ false → first_with i start slots ≡ None → first_with i start (slots ++ Some (new_object key) ∷ []) ≡ None
   absent (main k) start [] apart e = rw apart refl
   absent (part k n) start [] apart e = go (bytes_eq k key) where

@@ -1,4 +1,4 @@
--- A doomed object changed at its node, or gone.
+-- A doomed object changed at its node, or freed.
 use Rattle.std.proofs.Common.{◌≡◌, ℕ, ◌<◌, List, map, refl, ap, sym, ◌∙◌, subst, Bool, true, false, set, get_or-set_same, get_or-set_other, ◌≢◌, Option, Some, None, Ok, ⊎_elim}
 use Rattle.std.specs.Prelude.{◌==◌, IfSome, length}
 use Rattle.std.specs.Option.{option_and_then}

@@ -1,4 +1,4 @@
--- The laws on changes of what is represented, each at the state of one object: its stream is written anew, its dirty flag, and blocks that are nobody's.
+-- The laws on changes of what is represented, each at the state of one object: its stream is written anew, its dirty flag, and blocks without an owner.
 use Rattle.std.proofs.Common.{◌≡◌, ⊎_elim, ℕ, zero, suc, List, [], ◌∷◌, refl, ap, sym, ◌∙◌, subst, arith, ◌<◌, Bool, true, false, Option, Some, None, Ok}
 use Rattle.std.specs.Prelude.{if◌then◌else◌, ◌==◌, ◌&&◌, codes, map}
 use Rattle.std.specs.Str.{bytes_eq}
@@ -185,7 +185,7 @@ torn-midst = record { of_key = midst.of_key; unsettled = midst.unsettled; dirty 
 pub midst-is_at_rest : map volume.row_of_loaded (kept_among (with_data None).store held_rule (node ∷ [])) ≡ rest (state false)
 midst-is_at_rest = midst-rest (λ w. w == node) (with_data None).store (state false) (layout 5) torn-holds (state_is_valid false) (codes "a") torn-midst (refl, tt)
 
--- Data is written at block 2 of data_1, which is nobody's.
+-- Data is written at block 2 of data_1, which has no owner.
 
 -- block 2 of data_1
 abbrev pub new_block : Claim → Bool

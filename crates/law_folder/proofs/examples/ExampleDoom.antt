@@ -332,7 +332,7 @@ still-kept = dooms-keep gone doomed_stock two (record two_layout { chains = one_
 abbrev doomed_view : View
 doomed_view = record { list = after_writes (writes_of remove node two_view.list) two_view.list; store = doomed_stock }
 
--- no other item goes with it
+-- no other item is removed with it
 doomed-now : IsDoomedNow two two_layout 0 (object true) (loaded 0) two_layout.at one_chain two_layout.owner
 unfolding created closed put
 doomed-now = record {

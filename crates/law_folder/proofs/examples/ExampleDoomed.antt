@@ -1,5 +1,5 @@
 -- The laws on states at a doomed object that a handle names: its node and its record lie there, neither listed nor chained, and it is not held;
--- it is written to, and it goes.
+-- it is written to, and it is freed.
 use Rattle.std.proofs.Common.{◌≡◌, ℕ, zero, suc, List, [], ◌∷◌, map, refl, ap, sym, ◌∙◌, subst, arith, Bool, true, false, Option, Some, None, Ok}
 use Rattle.std.specs.Prelude.{if◌then◌else◌, ◌==◌, ◌&&◌, codes, IfSome, IsSome}
 use Rattle.blk_model.specs.Items.{Item, main, part, times}
@@ -143,7 +143,7 @@ more-is_outside dirty bytes = record {
   table = λ b. refl;
 }
 
--- data that is written at a block that is nobody's leaves the doomed object
+-- data that is written at a block without an owner leaves the doomed object
 pub doomed-stays : Represents (doomed_view 0 (Some (codes "yyy"))) (doomed_state true) (doomed_layout 0)
 doomed-stays = represents-outside new_block (doomed_view 0 None) (doomed_view 0 (Some (codes "yyy"))) (doomed_state true) (doomed_layout 0) (more-is_outside 0 (Some (codes "yyy"))) block-is_free (doomed-is_represented 0)
 
@@ -231,7 +231,7 @@ pub torn-is_not_held : map volume.row_of_loaded (kept_by held_rule (volume.compl
 unfolding rest
 torn-is_not_held = doomed-rest touched (doomed_view 5 None) (written_view None) (doomed_state false) (doomed_layout 5) (doomed-is_represented 5) (doomed-is_valid false) 0 (doomed_object false) refl refl (written-is_inside None) written-alone
 
--- ---- and then it goes, and its record and stream are overwritten
+-- ---- the doomed object is freed, and its record and stream are overwritten
 
 abbrev emptied_view : View
 emptied_view = record (doomed_view 5 None) { store = record (doomed_view 5 None).store { entry = λ w. None; stored = λ size w. if (size == 0) && (w == 0) then Some [] else None } }
@@ -252,7 +252,7 @@ emptied-is_inside = record {
   table = λ b. refl;
 }
 
--- the state without it is represented, where nobody owns anything
+-- the state without the doomed object is represented, where nothing has an owner
 pub gone-is_represented : Represents emptied_view (with_slot 0 None (doomed_state false)) (emptied_at (doomed_layout 5) one.node (λ claim. None))
 gone-is_represented = gone-doomed touched (doomed_view 5 None) emptied_view (doomed_state false) (doomed_layout 5) (doomed-is_represented 5) 0 (doomed_object false) (one.loaded 5) (λ claim. None) (here-doomed 5) emptied-is_inside written-alone
     (λ c w owned apart. absurd (let z : true ≡ false = sym (eq-eqb one.node w (only-node 5 w c owned)) ∙ apart in cc))

@@ -1,4 +1,4 @@
--- The laws on items at a sparse object with one part, whose node is in front of its parent's: the part goes with its parent.
+-- The laws on items at a sparse object with one part, whose node is in front of its parent's: the part is removed with its parent.
 use Rattle.std.proofs.Common.{◌≡◌, ◌⊎◌, inl, inr, ⊎_elim, ℕ, zero, suc, ◌<◌, List, [], ◌∷◌, ◌++◌, map, refl, ap, sym, ◌∙◌, subst, arith, Bool, true, false, Option, Some, None, Ok}
 use Rattle.std.specs.Prelude.{if◌then◌else◌, ◌==◌, ◌&&◌, ◌||◌, nat_lt, codes, replicate}
 use Rattle.std.specs.List.{range_with_len}
@@ -258,7 +258,7 @@ its-main key n h = ⊎_elim
 pub main-listed : (key : List ℕ) (n : ℕ) → is_listed family_state (part key n) ≡ true → is_listed family_state (main key) ≡ true
 main-listed key n h = subst (λ (k : List ℕ). is_listed family_state (main k) ≡ true) (sym (its-main key n h).0) refl
 
--- a part that passes goes with its parent
+-- a part that passes the test passes with its parent
 goes-with : GoesWith family_layout family_state.uses held_rule is_clean
 goes-with = record {
   clean = λ item l h at passes. passes;

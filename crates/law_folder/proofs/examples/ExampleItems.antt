@@ -247,7 +247,7 @@ open-may_be_stopped = open-moments both_view both both_layout both-are_represent
 pub open-is_represented : Represents (record both_view { list = after_writes (touch_writes node both_view.list) both_view.list }) (step both 7 (to_open 2 (codes "a"))).state both_layout
 open-is_represented = open-ends both_view both both_layout both-are_represented both-are_valid 7 2 (codes "a") open-is_not_refused
 
--- The entry `b` is taken out: its node is out of the list, and gone.
+-- The entry `b` is taken out: its node is out of the list, and of the layout.
 
 abbrev is_not_second : Item → Bool
 is_not_second item = not (bytes_eq (key_of item) (codes "b"))

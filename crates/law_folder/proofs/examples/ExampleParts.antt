@@ -100,7 +100,7 @@ family-is_valid = record {
   held-by zero = λ unsettled. absurd (let c : true ≡ false = unsettled in cc)
   held-by (suc n) = tt
 
--- ---- the part goes, and its parent stays
+-- ---- the part is removed, and its parent stays
 
 -- what stays
 abbrev pub stays : Item → Bool
@@ -129,15 +129,15 @@ lists-less = record {
   doomed-same zero o is dead = let s : (let z : Object = record family { parts = [] } in z) ≡ o = cc in let c : true ≡ false = ap (λ (z : Object). z.live) s ∙ dead in absurd (cc)
   doomed-same (suc n) o is dead = absurd (cc)
 
--- the records at the nodes once the part is gone
+-- the records at the nodes once the part is removed
 abbrev pub parent_at : ℕ → Option Loaded
 parent_at w = if w == parent_node then Some the_parent else None
 
--- the chains once the part is gone
+-- the chains once the part is removed
 abbrev pub parent_chains : ℕ → List ℕ
 parent_chains b = if b == 0xA782 then 0xA0010000 ∷ [] else []
 
--- the owners once the part is gone
+-- the owners once the part is removed
 abbrev pub parent_owner : Claim → Option ℕ
 parent_owner claim = if has_claim (all_claims the_parent) claim then Some parent_node else None
 
@@ -168,7 +168,7 @@ has-less = record {
 pub parent-is_laid : IsLayoutOf (without_items family_state without_part stays) (placed_less family_layout parent_at parent_chains parent_owner)
 parent-is_laid = lies-less family_state without_part stays family_layout parent_at parent_chains parent_owner family-holds.lies lists-less has-less
 
--- the store view once the part's node is gone
+-- the store view once the part's node is removed
 abbrev pub without_node : StoreView
 without_node = record family_stock { node_fields = λ w. if w == parent_node then family_stock.node_fields parent_node else None }
 

@@ -1,4 +1,4 @@
--- The laws on removals and dooms at a sparse object with one part: the part goes alone, and the object is doomed with it.
+-- The laws on removals and dooms at a sparse object with one part: the part is evicted alone, and the object is doomed with it.
 use Rattle.std.proofs.Common.{◌≡◌, ⊎_elim, ℕ, [], ◌∷◌, map, refl, ap, sym, ◌∙◌, subst, Bool, true, false, Some, None, Ok}
 use Rattle.std.specs.Prelude.{if◌then◌else◌, take, ◌==◌, ◌||◌, not, codes}
 use Rattle.std.proofs.lemmas.Bool.{eqb-true, cases_Bool}
@@ -45,7 +45,7 @@ nobody's claim h = let z : false ≡ true = h in cc
 family-at_rest : IsAtRest family_view.list (part_node ∷ parent_node ∷ [])
 family-at_rest = record { whole = family-is_represented.list; idle = refl }
 
--- ---- the part goes, and its parent stays
+-- ---- the part is removed, and its parent stays
 
 -- the word of its bucket becomes 0
 abbrev part_unlinked : StoreView
@@ -78,7 +78,7 @@ part-is_removed = less-represented (λ w. w == part_node) (record { list = after
     (λ w l is. let p = choice (w == parent_node) the_parent l is in ap (λ (x : ℕ). x == part_node) (eqb-true w parent_node p.0))
     (removals-end part_node family_view.list [] (parent_node ∷ []) family-at_rest)
 
--- ---- the object is doomed: its node goes out of the list, while its part is still there
+-- ---- the object is doomed: its node is removed from the list, while its part is still there
 
 abbrev not_main : Item → Bool
 not_main item = not (same_item item (main (codes "a")))
@@ -106,7 +106,7 @@ unfolding rest settled_row doomed
 part-is_never_kept = doomed-parts (λ w. false) without_main named_state family_layout family-holds_but (named-is_valid true) 0 family refl not_main refl others-stay (λ item h keeps. refl)
     (removals-end parent_node family_view.list (part_node ∷ []) [] family-at_rest) 0 refl refl
 
--- then its part goes out of the list, both go out of their chains, the part's node goes, and the record of the object gets state 2
+-- then its part is removed from the list, both are unlinked, the part's node is removed, and the record of the object gets state 2
 abbrev both_gone : ℕ → Bool
 both_gone w = (w == parent_node) || (w == part_node)
 

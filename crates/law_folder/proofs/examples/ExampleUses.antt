@@ -191,7 +191,7 @@ counter-is_of_headers = record { index = λ i shown. refl; extents = λ n i exte
 counter-has_grown : HaveGrown whole_folder counted
 counter-has_grown = headers-change (one_word (Block 1) 16) whole_folder counted counter-is_of_headers counter-outside (λ n. let e = length-after_write whole_folder (Block 1) (Block n) 16 (word_bytes 9) in omega (arith, e))
 
--- data_9 isn't linked, so it may go
+-- data_9 isn't linked, so it may be deleted
 ninth-may_go : IsWithoutFile whole_folder (applied (Delete (Block 9)) whole_folder)
 ninth-may_go = unlinked-go whole_folder 9 (whole-linked 9)
 

@@ -103,7 +103,7 @@ times_are node moment kind =
       );
     }
 
--- the commit goes on
+-- a commit stays where later steps follow it
 turns_then : (count : ℕ) (P Q : Image → Type 0) (s t : List TrailStep) (image : Image) → count ≤ length s → CommitsAt count P Q image s → Along Q (after s image) t → CommitsAt count P Q image (s ++ t)
 turns_then zero P Q s t image low all more = until-append Q Q s t image all more
 turns_then (suc count) P Q [] t image low all more = absurd (omega arith)

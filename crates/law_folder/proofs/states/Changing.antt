@@ -38,7 +38,7 @@ same-place m y r i j here there e =
     let same : a.loaded ≡ b.loaded = let p : y.at (y.place i) ≡ Some a.loaded = a.here in let q : y.at (y.place j) ≡ Some b.loaded = b.here in let s : y.at (y.place i) ≡ y.at (y.place j) = ap y.at e in cc in
     sym (item-row m i (row_of_loaded a.loaded) a.row) ∙ ap (λ (x : Loaded). item_of (row_of_loaded x)) same ∙ item-row m j (row_of_loaded b.loaded) b.row
 
--- a dirty flag goes with the object of a state where it goes with that of another, which is clean just so
+-- a dirty flag fits the object of a state where it fits that of another, which is clean just so
 pub mark-same : (n o : Option Object) (clean : Bool) → option_map (λ (z : Object). z.settled) n ≡ option_map (λ (z : Object). z.settled) o → IfSome o (λ z. clean ≡ z.settled) → IfSome n (λ z. clean ≡ z.settled)
 mark-same None o clean e p = tt
 mark-same (Some x) None clean e p = cc

@@ -320,7 +320,7 @@ laid-shown v m y r rule items good state sub once goes =
     laid-but (λ w. false) v m y (record { no_record = r.shows.no_record; each = λ w l is _. r.shows.each w l is; chains = r.shows.chains; laid = r.lies.laid; normal = r.lies.normal; chained = λ w l there is _. r.lies.chained w l there is; own = r.lies.own; single = r.lies.single }) rule items good state sub once goes
     (λ i l among is passes. refl) (λ i k among h ok. absurd (let c : false ≡ true = h in cc))
 
--- ---- the test by dirty flags goes with the rule of what a folder holds
+-- ---- the test by dirty flags agrees with the rule of what a folder holds
 
 module _ (m : State) (y : Layout) (lay : (i : Item) → is_listed m i ≡ true → IsPlacedAt m y i) (items : List Item) (sub : (i : Item) → is_in items i ≡ true → is_listed m i ≡ true) where
   -- the role of a main item's record, and of a part's

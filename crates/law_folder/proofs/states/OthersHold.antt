@@ -1,4 +1,4 @@
--- While some nodes are in the midst of a change or gone, the others stay as they are.
+-- While some nodes are in the midst of a change or removed, the others stay as they are.
 use Rattle.std.proofs.Common.{◌≡◌, ◌⊎◌, inl, inr, ⊎_elim, ℕ, suc, ◌+◌, List, ◌++◌, refl, ap, sym, ◌∙◌, subst, true, false, Some, Ok}
 use Rattle.std.specs.Prelude.{not, ◌==◌, nat_le, slice_index}
 use Rattle.std.specs.List.{flat_map}

@@ -12,7 +12,7 @@ use Rattle.spec_folder.specs.Loads.{Rule, held_rule, Loaded, load, load_record, 
 use Rattle.spec_folder.specs.Entries.{is_key_length, stored_key, stored_streams, role_of}
 use Rattle.spec_folder.specs.Reasons as reason
 
--- what went on to a value
+-- a step that gave a value
 pub bind_then : {A B P : Type 0} (r : Result A Reason) (f : A → Result B Reason) (y : B) → (r >>= f) ≡ Ok y → ((x : A) → r ≡ Ok x → f x ≡ Ok y → P) → P
 bind_then (Ok x) f y e goes = goes x refl e
 bind_then (Err reason) f y e goes = cc
