@@ -15,7 +15,7 @@ get_or-append-zeros [] (suc k) (suc i) = get_or-append-zeros [] k i
 get_or-append-zeros (x ∷ xs) k zero = refl
 get_or-append-zeros (x ∷ xs) k (suc i) = get_or-append-zeros xs k i
 
--- nor do they change the set
+-- zeros at the end don't change the set
 pub has_bit-append-zeros : (xs : List ℕ) (k n : ℕ) → has_bit (xs ++ replicate k 0) n ≡ has_bit xs n
 unfolding has_bit
 has_bit-append-zeros xs k n = ap (λ byte. bit_at byte (n % 8) == 1) (get_or-append-zeros xs k (n / 8))
@@ -119,7 +119,7 @@ bits_of_files-more old new first end adds some below absent =
     bits_below-more old new (256 * 65536) first (λ m h. adds m ∙ or_right (is_between first end m) (has_bit old m) h) below absent
     (adds first ∙ grind (arith, nat_tests))
 
--- the same numbers are as many
+-- a set that has all numbers of another has as many at least
 pub bits_of_files-same : (old new : List ℕ) → ((m : ℕ) → has_bit new m ≡ has_bit old m) → bits_of_files old ≤ bits_of_files new
 unfolding bits_of_files
 bits_of_files-same old new same = bits_below-kept old new (256 * 65536) (λ m h. same m ∙ h)

@@ -148,7 +148,7 @@ still_same old mid new one other = record {
 
 -- A number that is taken back.
 
--- where an external number joined, and nothing else, and goes again, nothing has changed
+-- where an external number joined, and nothing else, and is taken out again, nothing has changed
 pub taken_back : (old mid late new : Claims) (w : ℕ) → IsTrue (is_address w) → kind_of w ≡ external → is_claimed old w ≡ false → Adds old mid w → IsUnchanged mid late
     → new.blocks ≡ late.blocks → new.allocations ≡ late.allocations → ((m : ℕ) → contains nat_cmp new.externals m ≡ (contains nat_cmp late.externals m && not (m == external_number w)))
     → IsUnchanged old new

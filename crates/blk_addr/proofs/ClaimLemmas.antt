@@ -11,7 +11,7 @@ use Rattle.spec_format.specs.Address.{kind_of, first_block, block_count, file_se
 use Rattle.spec_format.specs.Claims.{Claim, BlockOf, ExternalOf, same_claim, claims_of, has_claim, repeats, is_in_file}
 use Rattle.blk_addr.specs.Bits.{has_bit, is_between}
 
--- or false changes nothing
+-- a disjunction with false is the other side
 pub or_false : (b : Bool) → (b || false) ≡ b
 or_false true = refl
 or_false false = refl
@@ -189,7 +189,7 @@ first_apart c claims (d ∷ others) apart =
     let first = or_parts (same_claim d c) (list_any (same_claim d) claims) parts.0 in
     ap (λ t. t || list_any (same_claim c) others) (same_claim-comm c d ∙ first.0) ∙ first_apart c claims others parts.1
 
--- nor are the others of the list
+-- where none of some used blocks is in a list, none of those after the first is
 pub rest_apart : (c : Claim) (claims others : List Claim) → list_any (has_claim (c ∷ claims)) others ≡ false → list_any (has_claim claims) others ≡ false
 unfolding has_claim
 rest_apart c claims [] apart = refl

@@ -27,7 +27,7 @@ impl Kind {
         self as u32
     }
 
-    /// The bytes of one block, where addresses of the kind name blocks.
+    /// How many bytes one block has, where addresses of the kind name blocks.
     #[tactic(auto, unfolding(spec_format::specs::Address::block_size))]
     pub fn block_size(self) -> Option<u32>
         ensures size { result ≡ (if kind_number self == external then None else Some (address.block_size (kind_number self))) }

@@ -14,7 +14,7 @@ const MOST_IN_1K: u32 = 4095;
 
 const MOST_IN_4K: u32 = 16384;
 
-/// The bytes of a block of the files in which records lie. A record's key needs a block more for each so many bytes.
+/// How many bytes a block has of the files in which records lie. A record's key needs a block more for each 256 bytes.
 pub const RECORD_BLOCK: u32 = 256;
 
 // The first length at which a key needs a second block of its record.

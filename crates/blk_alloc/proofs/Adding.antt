@@ -64,11 +64,11 @@ module _ (mid : Image) (kind n : ℕ) (file : mid (Block n) ≡ Some (new_header
     counted = ap (λ (l : List ℕ). allocations_of (content l)) bytes_new ∙ zero_word kind n 16 (omega arith);
   }
 
-  -- nor hints
+  -- the new file has no hints
   pub new_hints : HasNoHints mid n
   new_hints i small = ap (λ (l : List ℕ). word_at (content l) (40 + 4 * i)) bytes_new ∙ zero_word kind n (40 + 4 * i) (omega arith)
 
-  -- nor any group that is counted
+  -- the new file has no group that is counted
   pub new_counts : (i : ℕ) → empty_of (byte mid (Block n)) i ≡ 0
   new_counts i = ap (λ (l : List ℕ). empty_of (content l) i) bytes_new ∙ zero_word kind n (24 + 4 * i) (omega arith)
 

@@ -14,7 +14,7 @@ use Rattle.blk_disk.specs.Tables.{Agrees, Resizes, all_files, length_in}
 use Rattle.blk_disk.proofs.Ranges.{stands_agree}
 use Rattle.blk_alloc.proofs.Kept.{IsLarger, fit_larger, standing_kept}
 
--- the tables are larger, and each file that was kept has its marks and its allocations; external files come and go not
+-- the tables are larger, and each file that was kept has its marks and its allocations; no external file is made or deleted
 pub record Widens (old new : BlockFiles) (from mid : Image) : Type 0 where
   pub tables : IsLarger old new
   pub externals : (m : ℕ) → has_file mid (External m) ≡ has_file from (External m)

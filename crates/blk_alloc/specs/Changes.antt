@@ -1,4 +1,4 @@
--- A change of the marks of blocks in one group of a file, with the counters that go with it.
+-- A change of the marks of blocks in one group of a file, with the counters that belong to it.
 use Rattle.std.specs.Prelude.{◌≡◌, ◌⊎◌, ℕ, ◌+◌, ◌-◌, ◌*◌, ◌/◌, ◌%◌, ◌<◌, ◌≤◌, List, [], ◌∷◌, ◌++◌, Bool, true, false, if◌then◌else◌, slice_index}
 use Rattle.spec_image.specs.Bytes.{word_bytes}
 use Rattle.spec_image.specs.Image.{Block, Image, byte, length_of}

@@ -1,7 +1,7 @@
 // The bytes of a map, places in a header that was read, and the blocks of a group.
 use blk_record::BlockHead;
 
-// The bytes of the map.
+// How many bytes the map has.
 pub(crate) const MAP_LEN: usize = (BlockHead::HEADER_LEN - BlockHead::MAP) as usize;
 
 // The places of fields.

@@ -9,7 +9,7 @@ use blk_handles::Handles;
 use blk_ranges::LONGEST_KEY;
 use std::alloc::Global;
 
-// The bytes of the key buffer: the key of a parent, and after it the name of a part.
+// How many bytes the key buffer has: the key of a parent, and after it the name of a part.
 const NAME_BUFFER_LEN: usize = LONGEST_KEY as usize + LONGEST_NAME as usize;
 
 // The table of handles, and the key buffer.

@@ -275,7 +275,7 @@ fn count_of(bytes: &[u8]) -> u64
     bytes.len() as u64
 }
 
-// The most bytes of a stream, where a cache keeps so many.
+// The most bytes of a stream, by how many a cache keeps.
 fn stream_limit(max_bytes: u64) -> u64
     ensures limit { result ≡ longest_stream max_bytes }
     ensures few { result ≤ most_stream }

@@ -37,7 +37,7 @@ pub struct Head {
     pub size: u64,
 }
 
-// The bytes of a block of a kind.
+// How many bytes a block of a kind has.
 #[tactic(auto, unfolding(spec_format::specs::Address::block_size))]
 pub(crate) fn block_size(kind: Kind) -> u32
     requires { kind_number kind ≢ external }

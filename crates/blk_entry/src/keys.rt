@@ -23,7 +23,7 @@ use blk_record::{BlockHead, EntryView, Record};
 /// The longest key of all, in bytes: the name of a part.
 pub const LONGEST_NAME: u32 = 32796;
 
-// The bytes of a block of a record.
+// How many bytes a block of a record has.
 const BLOCK: u64 = RECORD_BLOCK as u64;
 
 /// The words of a record that say what it is, and where its chain goes on.

@@ -27,7 +27,7 @@ use blk_record::{
     super_fast_hash,
 };
 
-// The bytes of a block of records.
+// How many bytes a block of records has.
 const BLOCK: usize = RECORD_BLOCK as usize;
 
 /// What a new entry has beside its key, and the places where it is written.

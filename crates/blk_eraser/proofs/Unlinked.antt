@@ -1,4 +1,4 @@
--- The zeros lie in blocks that nobody owns, so a state is shown, and kept, at each of them.
+-- The zeros lie in blocks without an owner, so a state is shown, and kept, at each of them.
 use Rattle.std.proofs.Common.{◌≡◌, ℕ, ◌+◌, ◌-◌, ◌*◌, ◌/◌, ◌<◌, ◌≤◌, ⊎_elim, Bool, true, false, ◌&&◌, nat_le, nat_lt, List, ◌++◌, map, Option, None, Some, refl, sym, ◌∙◌, ap, subst, arith}
 use Rattle.std.specs.Prelude.{◌==◌}
 use Rattle.std.proofs.lemmas.Bool.{and_parts, cases_Bool, eq-eqb, eqb-true, ltb-true, or_left}
@@ -215,7 +215,7 @@ module _ (unlinked : List ℕ) (from image : Image) (n place : ℕ) (new : List 
     counters_same erased from now same (λ i. refl),
   )
 
-  -- nobody owns what unlinked words name
+  -- what unlinked words name has no owner
   unowned : (state : State) (layout : Layout) (more : List ℕ) → KeepsUncounted state layout (unlinked ++ more) from → EachFreed (λ b. layout.owner (BlockOf n b) ≡ None) image n place new
   unowned state layout more k b below is =
       let c : Claim = BlockOf n b in

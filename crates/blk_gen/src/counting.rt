@@ -19,7 +19,7 @@ pub struct Counts {
     pub refused: u64,
     /// The items that were evicted.
     pub evicted: u64,
-    /// The bytes that were read.
+    /// How many bytes were read.
     pub read: u64,
 }
 

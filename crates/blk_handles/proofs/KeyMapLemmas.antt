@@ -14,11 +14,11 @@ use Rattle.blk_handles.specs.KeyMap.{key_for, nowhere, entry_numbered, IsRising,
 abbrev pub NotBefore : List RecordKey → ℕ → ℕ → Type 0
 NotBefore l e i = (j : ℕ) → j < i → entry_numbered l j ≢ e
 
--- nor has one of the rest
+-- no item of the rest before the one with the number i has the record
 not-in-rest : (x : RecordKey) (l : List RecordKey) (e i : ℕ) → NotBefore (x ∷ l) e (suc i) → NotBefore l e i
 not-in-rest x l e i not j lt = not (suc j) (omega arith)
 
--- in the rest, an item is one lower
+-- an item with a number has a number less by one in the list without its first item
 at-rest : (x : RecordKey) (l : List RecordKey) (e i : ℕ) → IsAt (x ∷ l) e (suc i) → IsAt l e i
 at-rest x l e i is_at = record { in_range = omega (arith, is_at.in_range); has_entry = is_at.has_entry }
 

@@ -93,7 +93,7 @@ impl Handles {
         self.objects.get(key)
     }
 
-    /// The open object with a record. `None` where no name is bound to it. This doesn't go over the
+    /// The open object with a record. `None` where no name is bound to it. This doesn't read the
     /// names.
     pub fn object_of(&self, entry: Addr) -> Option<OpenObject>
         ensures object { result ≡ option_map (open_object self.now) (open_with self.now entry) }
@@ -156,7 +156,7 @@ impl Handles {
         Released::More
     }
 
-    /// Whether a name is bound to the object with a record. This doesn't go over the names.
+    /// Whether a name is bound to the object with a record. This doesn't read the names.
     #[tactic(auto, using(crate::proofs::BindingLemmas::open_with_told))]
     pub fn is_pinned(&self, entry: Addr) -> bool
         ensures { result ≡ is_open self.now entry }
@@ -177,7 +177,7 @@ impl Handles {
     }
 
     /// The number of open objects, each counted once, however many names are bound to it. This
-    /// doesn't go over the names.
+    /// doesn't read the names.
     pub fn open_objects(&self) -> usize
         ensures { result ≡ open_count self.now }
     {

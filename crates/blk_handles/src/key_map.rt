@@ -87,7 +87,7 @@ impl KeyMap {
         }
     }
 
-    // Where the record is, or where it would go.
+    // Where the record is, or where it would be put.
     fn search(&self, entry: Addr) -> Result<usize, usize>
         ensures found { IfOk result (IsAt self.now entry) }
         ensures absent { IfErr result (IsGapFor self.now entry) }

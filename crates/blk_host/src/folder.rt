@@ -13,7 +13,7 @@ use std::rt::Files;
 /// A folder of the file system, which counts the failed system calls.
 ///
 /// It is made of a `Held` alone and keeps it to its end. So no name is read and no file is opened before the lock was asked for, and none
-/// after it is gone.
+/// after it is released.
 #[derive(Drop)]
 pub struct RealFolder<R: Files<File = File> + Drop> {
     files: DiskFiles<R>,

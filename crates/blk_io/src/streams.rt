@@ -26,7 +26,7 @@ pub trait Source {
         ensures failed { OnErr result (Rises (faults self.old) (faults self.new)) };
 }
 
-/// An output, where printed bytes go.
+/// An output, to which bytes are printed.
 ///
 /// An output may gather bytes, as long as it isn't flushed; those that it holds count as written. A call that answers `Failed` may have written a prefix of its
 /// bytes, and is counted in `faults`.

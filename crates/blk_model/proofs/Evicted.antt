@@ -1,4 +1,4 @@
--- States that stay valid while eviction units of items that are not pinned go.
+-- States that stay valid while eviction units of items that are not pinned are evicted.
 use Rattle.std.proofs.Common.{◌≡◌, ℕ, zero, suc, ◌+◌, ◌<◌, ◌≤◌, Bool, true, false, not, ◌&&◌, ◌||◌, cond, List, [], ◌∷◌, ◌++◌, Some, None, Option, IfSome, IsSome, is_some, refl, ap, sym, ◌∙◌, subst, arith, get_or, map, reverse, ◌⊎◌, inl, inr}
 use Rattle.std.specs.List.{filter, AllByRecursion}
 use Rattle.std.specs.Option.{option_and_then, option_map_or}
@@ -26,7 +26,7 @@ abbrev pub IsLoose : (Item → Bool) → Group → Type 0
 IsLoose stays (whole key parts) = stays (main key) ≡ false
 IsLoose stays (single key n) = stays (part key n) ≡ false
 
--- what an item goes for: itself, or its main item
+-- with what an item is evicted: alone, or with its main item
 pub loose_main : (stays : Item → Bool) (groups : List Group) (key : List ℕ) → AllByRecursion (IsLoose stays) groups → is_out groups (main key) ≡ true → stays (main key) ≡ false
 loose_main stays [] key all gone = cc
 loose_main stays (whole other parts ∷ groups) key all gone =
@@ -135,7 +135,7 @@ cond_not : (b : Bool) (n : ℕ) → cond (not b) n 0 ≡ cond b 0 n
 cond_not true n = refl
 cond_not false n = refl
 
--- the main item of a live object with a handle does not go
+-- the main item of a live object with a handle is not evicted
 pub named_stays : (state : State) (valid : IsValidState state) (covered : List Item) (groups : List Group) → AllByRecursion (IsLoose (is_pinned state covered)) groups → (n : ℕ) (object : Object) → object_at state n ≡ Some object → is_named state n ≡ true →
     (object.live && is_out groups (main object.key)) ≡ false
 named_stays state valid covered groups loose n object here held =
@@ -150,7 +150,7 @@ named_stays state valid covered groups loose n object here held =
       | false ↦ λ left. refl
     ] refl
 
--- so what the eviction units leave of an object with a handle is the object without the parts that go
+-- so what the eviction units leave of an object with a handle is the object without the parts that are evicted
 pub named_left : (state : State) (valid : IsValidState state) (covered : List Item) (groups : List Group) → AllByRecursion (IsLoose (is_pinned state covered)) groups → (n : ℕ) (object : Object) → object_at state n ≡ Some object → is_named state n ≡ true →
     left_of groups object ≡ Some (record object { parts = kept_parts groups object })
 unfolding left_of

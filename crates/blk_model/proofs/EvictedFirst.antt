@@ -1,4 +1,4 @@
--- What a command evicts goes first: what stays of the rest is what stays of the whole.
+-- What a command evicts is removed first: what stays of the rest is what stays of the whole.
 use Rattle.std.proofs.Common.{◌≡◌, ℕ, zero, suc, ◌+◌, ◌≤◌, Bool, true, false, not, ◌&&◌, ◌||◌, cond, List, [], ◌∷◌, ◌++◌, Some, None, Option, refl, ap, sym, ◌∙◌, subst, arith, length, map, take, ◌⊎◌, inl, inr, ⊎_elim, append_assoc, length-append}
 use Rattle.std.specs.List.{filter, filter_map, cons_option, list_any, AllByRecursion}
 use Rattle.std.specs.Option.{option_and_then, option_map}
@@ -27,7 +27,7 @@ use Rattle.blk_model.proofs.StopRests.{picked_before, owner_key}
 use Rattle.blk_model.proofs.Leads.{may_settle, step_leads}
 use Rattle.blk_model.proofs.Chosen.{Owner, owner_of, picked_chooses, settled_chooses, stays_through}
 
--- Eviction units that go leave who has an item that isn't out.
+-- Evictions leave who has an item that isn't out.
 
 left_first : (groups : List Group) (item : Item) (start : ℕ) (slots : List (Option Object)) → is_out groups item ≡ false → first_with item start (map (option_and_then (left_of groups)) slots) ≡ first_with item start slots
 left_first groups item start [] stays = refl
@@ -224,7 +224,7 @@ loose_prefix : (stays : Item → Bool) (first others : List Group) → AllByRecu
 loose_prefix stays [] others all = tt
 loose_prefix stays (group ∷ first) others all = (all.0, loose_prefix stays first others all.1)
 
--- a part goes for itself, or with its main item
+-- a part is evicted alone, or with its main item
 loose_part : (stays : Item → Bool) (groups : List Group) (key : List ℕ) (n : ℕ) → AllByRecursion (IsLoose stays) groups → is_out groups (main key) ≡ false → stays (part key n) ≡ true → is_out groups (part key n) ≡ false
 loose_part stays [] key n all main_stays pinned = refl
 loose_part stays (whole other parts ∷ groups) key n all main_stays pinned =

@@ -30,7 +30,7 @@ pub record LeadsTo (settles : Bool) (old new : Object) : Type 0 where
   pub stays : settles ≡ true → new.live ≡ true → old.settled ≡ true → new.settled ≡ true
   pub items : new.live ≡ true → new.settled ≡ true → (item : Item) → has_item new item ≡ true → (has_item old item ≡ true) × (row_in new item ≡ row_in old item)
 
--- the same of a slot; an object that was not there before is dirty and fresh
+-- what a slot may become; an object that was not there before is dirty and fresh
 abbrev pub Leads : Bool → (Object → Type 0) → Option Object → Option Object → Type 0
 Leads settles Fresh before None = Unit {0}
 Leads settles Fresh None (Some new) = (new.settled ≡ false) × Fresh new
@@ -114,7 +114,7 @@ without_leads [] state n = to_same false Never (object_at state n)
 without_leads (group ∷ groups) state n =
     subst (Leads false Never (object_at state n)) (sym (map_at (left_of (group ∷ groups)) state.objects n)) (left_leads (group ∷ groups) (object_at state n))
 
--- eviction units that go leave as many slots
+-- evictions leave as many slots
 pub length-without : (groups : List Group) (state : State) → length (without groups state).objects ≡ length state.objects
 unfolding without
 length-without [] state = refl

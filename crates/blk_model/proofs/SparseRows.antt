@@ -64,7 +64,7 @@ part_goes_alone : replies (after_all new two_parts) (to_trim 8500 ∷ to_sparse_
 unfolding computing
 part_goes_alone = refl
 
--- a closed sparse object goes with the parts in front of it
+-- a closed sparse object is evicted with the parts in front of it
 parent_takes_its_parts : replies (after_all new (two_parts ++ to_sparse_read 0 1048575 2 ∷ to_close 0 ∷ [])) (to_trim 8600 ∷ to_total ∷ [])
     ≡ (whole (codes "v") (1 ∷ 0 ∷ []) ∷ [], answered (answer.Trimmed 3)) ∷ totals 0 0 ∷ []
 unfolding computing

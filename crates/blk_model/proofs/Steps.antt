@@ -57,7 +57,7 @@ pub room_for_is_loose : (moment : ℕ) (request : Request) (state : State) → A
 unfolding room_for room
 room_for_is_loose moment request state = room_is_loose state (covered request state) (total (effect moment request state) - total state) (items (effect moment request state) - items state)
 
--- an item without an owner has none after eviction units went
+-- an item without an owner has none after evictions
 owners_without : (item : Item) (groups : List Group) (state : State) → owners item state.objects ≡ 0 → owners item (without groups state).objects ≡ 0
 unfolding without
 owners_without item [] state none = none

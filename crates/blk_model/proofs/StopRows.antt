@@ -107,7 +107,7 @@ evicted_whole : held sparse_c (to_trim 0) 0 false ∷ held sparse_c (to_trim 0) 
 unfolding computing
 evicted_whole = refl
 
--- the same with a part after its main item, which goes alone and first
+-- a sparse object with a part after its main item, which is evicted alone and first
 abbrev part_behind : State
 part_behind = after_all new (made a ++ to_create 0 c ∷ to_sparse_write 0 0 (codes "x") ∷ to_sparse_write 0 1048576 (codes "y") ∷ to_close 0 ∷ [])
 
@@ -140,7 +140,7 @@ pair_is_valid = made_is_valid (after_all new (made a)) b (made_is_valid new a ne
 abbrev pub pair : State
 pair = after_all (after_all new (made a)) (made b)
 
--- `a` goes first
+-- `a` is evicted first
 pub a_goes_first : EvictsFirst pair 100 (to_trim 0) (whole a [] ∷ []) (whole b [] ∷ [])
 unfolding computing
 a_goes_first = record { passes = refl; groups = refl }

@@ -21,7 +21,7 @@ IsFit items (out group) = Unit {0}
 IsFit items (front (main key)) = Unit {0}
 IsFit items (front (part key n)) = 1 ≤ times (main key) items
 
--- the same of several steps, one after another
+-- what several steps need, one after another
 abbrev pub AreFit : List Item → List ListStep → Type 0
 AreFit items [] = Unit {0}
 AreFit items (step ∷ steps) = IsFit items step × AreFit (after_step items step) steps

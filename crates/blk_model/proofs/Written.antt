@@ -97,7 +97,7 @@ unfolding without
 without_names [] state = refl
 without_names (group ∷ groups) state = refl
 
--- the object of a handle stays but for parts that go
+-- the object of a handle stays but for parts that are evicted
 pub object_left : (state : State) (valid : IsValidState state) (covered : List Item) (groups : List Group) → AllByRecursion (IsLoose (is_pinned state covered)) groups → (handle : ℕ) → names_none state handle ≡ false →
     (parts : List (ℕ × PartValue)) × (object_of (without groups state) handle ≡ record (object_of state handle) { parts = parts })
 unfolding without

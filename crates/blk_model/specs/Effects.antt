@@ -119,7 +119,7 @@ sparse_used handle offset count state =
     let object = object_of state handle in
     used_sparse object (existing_parts object (covered_parts offset count)) state
 
--- what becomes of a live object that is doomed: without a handle it is gone at once, and with one it has no parts
+-- what becomes of a live object that is doomed: without a handle it is removed at once, and with one it has no parts
 abbrev pub doomed_slot : Bool → Object → Option Object
 doomed_slot is_held object = if is_held then Some (record object { live = false; parts = [] }) else None
 
@@ -136,7 +136,7 @@ abbrev pub doomed_key : State → Option ℕ → State
 doomed_key state None = state
 doomed_key state (Some number) = doomed number state (object_at state number)
 
--- what becomes of an object that has lost a handle: with none left a live one is clean, and a doomed one is gone
+-- what becomes of an object that has lost a handle: with none left a live one is clean, and a doomed one is freed
 abbrev pub released_slot : Bool → Object → Option Object
 released_slot is_held object = if is_held then Some object else if object.live then Some (record object { settled = true }) else None
 

@@ -1,4 +1,4 @@
--- What a command evicts goes first: crashes in it once some eviction units are out.
+-- What a command evicts is removed first: crashes in it once some eviction units are out.
 use Rattle.std.specs.Prelude.{◌≡◌, ℕ, ◌≤◌, Bool, List, ◌++◌, length, map, take, None}
 use Rattle.blk_model.specs.Items.{Row}
 use Rattle.blk_model.specs.State.{State, IsValidState}

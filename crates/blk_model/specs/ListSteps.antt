@@ -9,7 +9,7 @@ use Rattle.blk_model.specs.Sparse.{covered_parts}
 use Rattle.blk_model.specs.Effects.{object_of, number_of, existing_parts, used}
 use Rattle.blk_model.specs.Refusals.{refused, evicted}
 
--- a step on the LRU list: an eviction unit goes out, or an item comes to the front
+-- a step on the LRU list: an eviction unit is removed, or an item comes to the front
 pub data ListStep : Type 0 where
   out : Group → ListStep
   front : Item → ListStep
@@ -24,7 +24,7 @@ abbrev pub after_steps : List ListStep → List Item → List Item
 after_steps [] items = items
 after_steps (step ∷ steps) items = after_steps steps (after_step items step)
 
--- the list steps of a doom: a live object goes out with its parts
+-- the list steps of a doom: a live object is removed with its parts
 unfoldable pub doom_steps : State → Option Object → List ListStep
 doom_steps state None = []
 doom_steps state (Some object) = if object.live then out (whole object.key (parts_among object.key state.uses)) ∷ [] else []
@@ -51,7 +51,7 @@ dooms (to_doom handle) state = doom_steps state (object_at state (number_of stat
 dooms (to_doom_key key) state = doom_steps state (object_for state (live_with state key))
 dooms _ state = []
 
--- the list steps of a command that was not refused: what is evicted and what is doomed goes out, and what is accessed comes to the front
+-- the list steps of a command that was not refused: what is evicted and what is doomed is removed, and what is accessed comes to the front
 unfoldable pub steps_unless : ℕ → Request → State → Option Refusal → List ListStep
 steps_unless moment request state (Some why) = []
 steps_unless moment request state None = map out (evicted moment request state) ++ dooms request state ++ map front (uses_of request state)

@@ -43,7 +43,7 @@ no_stream stream = nat_le stream_count stream
 abbrev pub is_kept_from_streams : State → ℕ → ℕ → Bool
 is_kept_from_streams state handle stream = is_sparse (object_of state handle).shape && nat_lt 0 stream
 
--- whether a range goes past where sparse data ends
+-- whether a range ends past where sparse data ends
 abbrev pub past_end : ℕ → ℕ → Bool
 past_end offset count = nat_lt largest_offset (offset + count)
 

@@ -95,7 +95,7 @@ abbrev pub parts_among : List ℕ → List Item → List ℕ
 parts_among key items = filter_map (part_number key) items
 
 -- the eviction units that could be evicted, the items given from the back of the LRU list: each that need not stay, a main item with its parts in front of it
--- (those after it went alone before)
+-- (those after it were evicted alone before)
 unfoldable pub groups_from_back : (Item → Bool) → List Item → List Group
 groups_from_back stays [] = []
 groups_from_back stays (main key ∷ before) =

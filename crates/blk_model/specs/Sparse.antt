@@ -54,7 +54,7 @@ unfoldable pub covered_parts : ℕ → ℕ → List ℕ
 covered_parts offset zero = []
 covered_parts offset (suc count) = numbers_from (offset / part_size) ((offset + count) / part_size + 1 - offset / part_size)
 
--- the piece of the bytes written at an offset that goes to a part
+-- the piece of the bytes written at an offset that a part gets
 abbrev pub piece_for : ℕ → ℕ → List ℕ → List ℕ
 piece_for n offset bytes = take (part_size - (offset - n * part_size)) (drop (n * part_size - offset) bytes)
 

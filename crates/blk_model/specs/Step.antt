@@ -30,7 +30,7 @@ reply to_list groups state = showed (rows state)
 reply (to_trim bytes) groups state = answered (answer.Trimmed (sum_by (λ group. length (items_of_group group)) groups))
 reply to_total groups state = answered (answer.Totals (items state) (total state))
 
--- what a command gives: the eviction units that go, the reply and the new state
+-- what a command gives: the eviction units that are evicted, the reply and the new state
 pub record Outcome : Type 0 where
   pub groups : List Group
   pub reply : Reply

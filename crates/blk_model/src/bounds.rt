@@ -4,7 +4,7 @@ ghost use Rattle.blk_model.specs.Sizes.{most_bytes, most_items};
 
 /// The greatest number of bytes to which a cache may be limited.
 pub const MOST_BYTES: u64 = 1099511627776;
-/// The most bytes of a stream, whatever a cache keeps.
+/// The most bytes of a stream, whatever the limits of a cache are.
 pub const MOST_STREAM: u32 = 2147483647;
 /// The greatest number of items to which a cache may be limited.
 pub const MOST_ITEMS: u32 = 131072;

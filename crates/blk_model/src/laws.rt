@@ -75,7 +75,7 @@ pub fn totals_are_sums()
     ensures { TotalsAreSums }
 {}
 
-/// What a command evicts goes first: the durable contents without its first eviction units are a crash outcome of it, and so is what a crash later in it
+/// What a command evicts is removed first: the durable contents without its first eviction units are a crash outcome of it, and so is what a crash later in it
 /// leaves.
 pub fn evictions_come_first()
     ensures stops { EvictionsMayStop }

@@ -112,7 +112,7 @@ pub enum Refusal {
     NotSparse = 7,
     /// The object is sparse, and keeps the stream to itself.
     SparseStream = 8,
-    /// The range goes past where sparse data ends.
+    /// The range ends past where sparse data does.
     RangeEnd = 9,
     /// The object is doomed.
     Doomed = 10,
@@ -172,7 +172,7 @@ impl fmt::Display for Refusal {
 
 impl Error for Refusal {}
 
-/// What a command answers. The bytes that were read and the rows that were listed go with it apart.
+/// What a command answers. The bytes that were read and the rows that were listed are given apart from it.
 #[derive(Clone, Copy, Debug, PartialEq, Eq)]
 pub enum Answer {
     /// It is done.

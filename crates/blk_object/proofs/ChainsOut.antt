@@ -194,7 +194,7 @@ module _ (layout : Layout) (chains : ℕ → List ℕ) (between : Image) (whole 
     headers = headers-kept between;
   }
 
-  -- or the record before is being changed
+  -- the record is unlinked where the record before is being changed
   still-chained : (image : Image) → OnlyLinksChange (in_front before w) (store_of between) (store_of image) → IsStillLinked between w before image → IsUnlinking (record layout { chains = chains }) chains between image
   still-chained image only s = record {
     word = in_front before w;

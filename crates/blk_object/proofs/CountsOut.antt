@@ -120,7 +120,7 @@ next-counted state layout keep item was from image valid there stays here c l =
     let size = one-less l.size items left l.small.1.1 (l.size_less ∙ its-nodes f items sum c) less.items in
     counters-counted from image items sum left rest c (written-as from image l.entries l.bytes l.size left rest left entries bytes size l.written)
 
--- ---- once all that go are out
+-- ---- once all that are to be removed are out
 
 pub counted-out-ends : CountedOutEndsKept
 counted-out-ends state layout unlinked objects keep chains image k c less = record {

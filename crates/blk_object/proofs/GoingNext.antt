@@ -1,4 +1,4 @@
--- The next item of an object goes: what each call adds.
+-- The next item of an object is removed: what each call adds.
 use Rattle.std.proofs.Common.{◌≡◌, inl, inr, ℕ, List, [], ◌++◌, refl, ap, sym, ◌∙◌, subst, Bool, true, Ok, Option, None, Some}
 use Rattle.std.specs.Option.{ForSome}
 use Rattle.spec_image.specs.Image.{Image}
@@ -179,7 +179,7 @@ main-leaves key = (own-items-leave key).0
 pub part-leaves : (key : List ℕ) (keep : Item → Bool) (n : ℕ) → LeavesOtherKeys key keep → LeavesOtherKeys key (keeps_but keep (part key n))
 part-leaves key keep n others = (own-items-leave key).1 keep n others
 
--- while a main item goes
+-- while a main item is removed
 pub main-going : (state : State) (layout : Layout) (unlinked : List ℕ) (number : ℕ) (object : Object) (node entry : ℕ) (before : Option ℕ) (from image : Image) → KeepsUncounted state layout unlinked from → object_at state number ≡ Some object → object.live ≡ true → LiesAsFound state layout object.key node entry before
     → IsGoingNext state layout (λ item. true) layout.chains unlinked (main object.key) node entry before from image → FindsEither state (doomed number state (Some object)) image
 main-going state layout unlinked number object node entry before from image k at live p (inl is) =
@@ -201,7 +201,7 @@ part-going state layout keep chains unlinked number object n node entry before f
 
 -- ---- counted no longer
 
--- of an observable folder, in which an item went, and then is counted no longer
+-- of an observable folder, in which an item was removed, and then is counted no longer
 module _ (a m b : Told) (state : State) (layout : Layout) (keep : Item → Bool) (chains : ℕ → List ℕ) (unlinked : List ℕ) (item : Item) (node entry : ℕ) (before : Option ℕ) (from : Image) (there : a.files ≡ Some from) (charge : ℕ)
     (first : Passes a m (IsGoingNext state layout keep chains unlinked item node entry before from)) (out : ForSome m.files (IsOutUncounted state layout keep chains unlinked item entry charge from)) where
   gone-on : IsTold m (IsGoingNext state layout keep chains unlinked item node entry before from)
@@ -235,9 +235,9 @@ module _ (a m b : Told) (state : State) (layout : Layout) (keep : Item → Bool)
       (λ image still. counting-finds state layout keep chains unlinked (part object.key n) entry number object at (part-leaves object.key keep n others) charge from part-on.image image (out part-on.image part-on.is) still)
       (λ image still. counting-finds state layout keep chains unlinked (part object.key n) entry number object at (part-leaves object.key keep n others) charge from part-on.image image (out part-on.image part-on.is) still))
 
--- ---- a main item that goes before its parts
+-- ---- a main item that is removed before its parts
 
--- of an observable folder, in which it goes out, and then is counted no longer
+-- of an observable folder, in which it is taken out, and then is counted no longer
 module _ (a m b : Told) (state : State) (layout : Layout) (unlinked : List ℕ) (number : ℕ) (object : Object) (node entry : ℕ) (before : Option ℕ) (from : Image) (there : a.files ≡ Some from) (k : KeepsUncounted state layout unlinked from) (at : object_at state number ≡ Some object) (live : object.live ≡ true)
     (p : LiesAsFound state layout object.key node entry before) (stops : ForSome a.files (λ i. MayGoOut node entry before i → Passes a m (IsGoingOut node entry before i))) where
   begins : KeepsPartlyOut state layout (λ item. true) layout.chains unlinked from

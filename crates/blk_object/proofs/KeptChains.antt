@@ -289,7 +289,7 @@ module _ (state : State) (layout : Layout) (unlinked : List ℕ) (from between :
     headers = headers-kept between;
   }
 
-  -- or the record before is being changed
+  -- the record is unlinked where the record before is being changed
   still-chained : (image : Image) → OnlyLinksChange (in_front before was.contents) (store_of between) (store_of image) → IsStillLinked between was.contents before image → IsUnlinking layout layout.chains between image
   still-chained image only s = record {
     word = in_front before was.contents;

@@ -1,4 +1,4 @@
--- One item more is taken out, while others of its object may be out already: what holds as its record goes, and in the end, where what is left keeps its
+-- One item more is taken out, while others of its object may be out already: what holds as its record is unlinked, and in the end, where what is left keeps its
 -- checksums.
 use Rattle.std.proofs.Common.{◌≡◌, ℕ, List, ◌∷◌, ◌++◌, refl, ap, sym, ◌∙◌, subst, arith, Bool, true, false, Option, Some, None, Ok, inl, inr, ⊎_elim, append_assoc}
 use Rattle.std.specs.Prelude.{◌&&◌, ◌||◌, ◌==◌, filter, if◌then◌else◌, not}

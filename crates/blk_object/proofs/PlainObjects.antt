@@ -40,7 +40,7 @@ module _ (state : State) (number : ℕ) (object : Object) (valid : IsValidState 
       let same : o.object ≡ object = cc in
       no-part object object.key m none (subst (λ (x : Object). has_item x (part object.key m) ≡ true) same o.has)
 
-  -- and it goes whole with its main item
+  -- an object without parts is removed whole with its main item
   pub goes-whole : is_named state number ≡ false → IsWithout state (doomed number state (Some object)).objects (is_of_another object.key) (main object.key) × (doomed number state (Some object) ≡ without_items state (doomed number state (Some object)).objects (is_of_another object.key))
   goes-whole unnamed = unheld-go state number object valid here live unnamed
       (λ m. ⊎_elim (λ (e : is_listed state (part object.key m) ≡ true). absurd (no-listed m e)) (λ (e : is_listed state (part object.key m) ≡ false). e) (cases_Bool (is_listed state (part object.key m))))

@@ -1,4 +1,4 @@
--- An item that goes alone is removed: what each call adds.
+-- An item is removed alone: what each call adds.
 use Rattle.std.proofs.Common.{◌≡◌, inl, inr, ℕ, List, [], ◌++◌, ap, sym, ◌∙◌, subst, Option, None, Some}
 use Rattle.std.specs.Option.{ForSome}
 use Rattle.spec_image.specs.Image.{Image}

@@ -1,4 +1,4 @@
--- The session is the same while an item goes: once it is taken out, once its places are freed, and once it is counted no longer.
+-- The session is the same while an item is removed: once it is taken out, once its places are freed, and once it is counted no longer.
 use Rattle.std.proofs.Common.{◌≡◌, ◌∙◌, ap, refl, lit≤, ℕ, None, Option, Some}
 use Rattle.std.specs.Option.{ForSome}
 use Rattle.spec_image.specs.Image.{Image, Index, byte}
@@ -50,7 +50,7 @@ counted-session charge from image l =
     (index-words l.written.sum_written.between l.written.second 52 refl (lit≤ tt) refl refl refl l.written.sum_written.high.outside).session)
     (index-words l.written.second image 268 refl (lit≤ tt) refl refl refl l.written.nodes_written.outside).session
 
--- of an observable folder, in which an item went out, and then is counted no longer
+-- of an observable folder, in which an item was taken out, and then is counted no longer
 pub counted-then : (a m b : Told) (from : Image) (P : Image → Type 0) (charge : ℕ) → a.files ≡ Some from → Passes a m P → ForSome m.files (SameSession from) → ForSome m.files (λ at. ForSome b.files (AreCountedLess charge at)) → ForSome b.files (SameSession from)
 counted-then a m b from P charge there first same less image is =
     let mid = told_then a m from P there first in

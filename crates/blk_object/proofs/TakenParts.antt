@@ -259,7 +259,7 @@ going-mains state layout unlinked was before number object from image k lies at 
     inr (unlinked-find state layout (λ i. true) layout.chains unlinked (main object.key) was before number object from image (kept-begin state layout unlinked from k)
     (record { stays = refl; lies = record { listed = lies.listed; here = lies.here; prefix = lies.prefix; suffix = lies.suffix; stands = lies.stands } }) at (own-items-leave object.key).0 m)
 
--- a part that goes alone leaves a state without it
+-- a part that is removed alone leaves a state without it
 abbrev PartIsGone : State → Object → ℕ → ℕ → Type 0
 PartIsGone state object number n = IsWithout state (slice_set state.objects number (Some (without_part object n))) (λ item. not (same_item item (part object.key n))) (part object.key n)
     × (without_items state (slice_set state.objects number (Some (without_part object n))) (λ item. not (same_item item (part object.key n))) ≡ without (single object.key n ∷ []) state)

@@ -49,7 +49,7 @@ RemovesInList files node a m = ForSome a.files (λ from. (prefix suffix : List �
 abbrev pub HasRemoved : ℕ → Told → Told → Type 0
 HasRemoved node a m = ForSome a.files (λ from. Applies a m (operation_steps remove node from))
 
--- while the node goes out of the list
+-- while the node is removed from the list
 pub listing-stops : (files : BlockFiles) (node entry : ℕ) (before : Option ℕ) (a m : Told) → RemovesInList files node a m → ForSome a.files (λ from. MayGoOut node entry before from → Passes a m (IsPartly from (writes_of remove node (list_of from))))
 listing-stops files node entry before a m passes from there may =
     let rest = may.listed in

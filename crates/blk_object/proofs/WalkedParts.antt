@@ -235,7 +235,7 @@ module _ (state : State) (layout : Layout) (keep : Item → Bool) (chains : ℕ 
     within = let one = length-append w.passed (it.item ∷ []) in let two = length-append w.before (it.item ∷ []) in let within = w.within in omega (arith, one, two, within);
   }
 
-  -- or it is the first part
+  -- where the item at the next node is a part of the key, it is the first one
   pub step-finds : (found : ListedPart) → ((loaded : Loaded) → LoadsAt node loaded image → Some found ≡ part_loaded key node loaded) → IsFirstPart layout key items found
   step-finds found is =
       let said = some-loaded key node placed.loaded found (part_number key placed.loaded.role) refl (is placed.loaded step-at) in
@@ -260,7 +260,7 @@ walk-ended layout key whole items turn w = subst (HaveNoPart key) (sym (w.split 
   nothing [] is = refl
   nothing (item ∷ left) is = absurd (none-some is)
 
--- nor is anything after as many iterations as there are nodes at most
+-- there is no part left after as many iterations as there are nodes at most
 pub turns-ended : (layout : Layout) (key : List ℕ) (all items : List Item) (next : Option ℕ) (turn : ℕ) (image : Image) → HasListAtRest (nodes_of layout all) image → 131072 ≤ turn → IsWalkedTo layout key all items next turn → HaveNoPart key items
 turns-ended layout key all items next turn image rest end w = go w.left refl where
   go : (left : List Item) → w.left ≡ left → HaveNoPart key items

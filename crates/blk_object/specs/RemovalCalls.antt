@@ -61,7 +61,7 @@ DoomsUncounted new from state layout unlinked number object loaded = ForSome new
 abbrev pub StopsDooming : (old new : Told) → Image → State → Layout → List ℕ → ℕ → Object → Loaded → Type 0
 StopsDooming old new from state layout unlinked number object loaded = Passes old new (FindsEither state (doomed number state (Some object)))
 
--- Live objects, of which the main item goes first.
+-- Live objects, of which the main item is removed first.
 
 -- P holds of each live object whose main item has this node and the record that was found
 abbrev pub ForMain : Told → (node : ℕ) → Found → (Image → State → Layout → List ℕ → ℕ → Object → Loaded → Type 0) → Type 0
@@ -105,7 +105,7 @@ TakesAlone new node found charge from state after layout unlinked = ForSome new.
 abbrev pub StopsAlone : (old new : Told) → Image → (state after : State) → Layout → List ℕ → Type 0
 StopsAlone old new from state after layout unlinked = Passes old new (FindsEither state after)
 
--- Items that go next, while others are out, or none.
+-- Items that are removed next, while others are out, or none.
 
 -- P holds of each such item with this node and the record that was found
 abbrev pub ForNext : Told → (node : ℕ) → Found → (Image → State → Layout → (keep : Item → Bool) → (chains : ℕ → List ℕ) → List ℕ → Item → Type 0) → Type 0
@@ -135,7 +135,7 @@ RemovesNext new found from state layout keep chains unlinked item = CountsLeft s
 abbrev pub LeavesOthers : (new : Told) → Image → State → Layout → (keep : Item → Bool) → (chains : ℕ → List ℕ) → List ℕ → Item → Type 0
 LeavesOthers new from state layout keep chains unlinked item = ForSome new.files (KeepsUnlinked unlinked from)
 
--- before each step and after the last it is as before, going out, or out and its addresses are being freed
+-- before each step and after the last it is as before, being removed, or out and its addresses are being freed
 abbrev pub StopsTakingNext : (old new : Told) → (node : ℕ) → Found → Image → State → Layout → (keep : Item → Bool) → (chains : ℕ → List ℕ) → List ℕ → Item → Type 0
 StopsTakingNext old new node found from state layout keep chains unlinked item = Passes old new (IsGoingNext state layout keep chains unlinked item node found.entry found.before from)
 

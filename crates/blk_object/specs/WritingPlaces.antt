@@ -17,6 +17,6 @@ FillingFindsTheSame = (files kept : BlockFiles) (from image : Image) → Agrees 
 abbrev pub FilledPlacesAreUnlinked : Type 0
 FilledPlacesAreUnlinked = (files kept : BlockFiles) (place : Option ℕ) (from image : Image) → HasSoundHeaders from → Agrees files from → IsFilled files kept place from image → Takes (long_word place) from image × SameCounters from image
 
--- an old address that is freed is removed: its blocks are no allocation any more, or its file is gone
+-- an old address that is freed is removed: its blocks are no allocation any more, or its file is deleted
 abbrev pub FreedPlacesAreRemoved : Type 0
 FreedPlacesAreRemoved = (w : ℕ) (from image : Image) → HasSoundHeaders from → stands_in from w ≡ true → FreesPlace w from image → RemovesPlace w from image

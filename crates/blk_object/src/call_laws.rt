@@ -34,7 +34,7 @@ pub fn external_files_are_added()
     ensures added { CreationsAdd }
 {}
 
-/// While an unlinked external file is deleted recovery gives the same durable contents; when it is done, the file is gone.
+/// While an unlinked external file is deleted recovery gives the same durable contents; when it is done, the file isn't there.
 pub fn external_files_are_gone()
     ensures find { DeletionsFindTheSame }
     ensures removed { DeletionsRemove }

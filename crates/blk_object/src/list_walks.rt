@@ -1,4 +1,4 @@
-// The link words of nodes along which a walk over the LRU list goes, and the end of such a walk.
+// The link words of nodes along which a walk over the LRU list is made, and the end of such a walk.
 ghost use Rattle.std.specs.Prelude.{◌≡◌, IfSome, None, OnOk};
 ghost use Rattle.spec_format.specs.Address.{kind_of, rankings};
 ghost use Rattle.blk_io.specs.Faults.{IfDamaged, IfDevice};

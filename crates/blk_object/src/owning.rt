@@ -27,7 +27,7 @@ use blk_record::EntryView;
 pub struct Owned {
     /// The places of its node, its record, its long key and its three streams, in this order, where it has them.
     pub places: [Option<Addr>; 6],
-    /// The bytes of its key and its streams.
+    /// How many bytes its key and its streams have.
     pub charge: u64,
     /// The flags of its record.
     pub flags: u32,
@@ -73,7 +73,7 @@ pub fn read_owned<F: Folder>(
     })
 }
 
-/// Frees the places of an entry that is gone, in their order.
+/// Frees the places of an entry that is removed, in their order.
 pub fn free_owned<F: Folder>(folder: &mut F, files: &BlockFiles, owned: &Owned) -> Result<(), Fault>
     requires stand { All (IsPlaceAmong files.now) owned.now.places }
     requires is_open { ForSome (F.told folder.old).files (IsOpen files.now) }
@@ -95,7 +95,7 @@ pub fn free_owned<F: Folder>(folder: &mut F, files: &BlockFiles, owned: &Owned) 
     free_places(folder, files, &owned.places)
 }
 
-/// The bytes of the key and the streams of an entry, by the words of its record.
+/// How many bytes the key and the streams of an entry have, by the words of its record.
 pub fn charge_of_head(head: &Head) -> u64
     ensures small { result < 2 ^ 34 }
     ensures charge { result ≡ head.now.key_len + slice_index head.now.sizes 0 + slice_index head.now.sizes 1 + slice_index head.now.sizes 2 }

@@ -34,7 +34,7 @@ pub fn take_out<F: Folder>(
     requires stands_before { IfSome found.now.before (λ before. IsTrue (stands_among files.now before)) }
     requires is_open { ForSome (F.told folder.old).files (IsOpen files.now) }
 
-    // An item that may go out is taken out.
+    // An item that may be removed is taken out.
     ensures taken { OnOk result (TakesOut (F.told folder.old) (F.told folder.new) node found.now) }
 
     // At each word a prefix of the writes of the list is made, or the node is out of it and the record is in its chain yet, or out of
@@ -46,7 +46,7 @@ pub fn take_out<F: Folder>(
     // Corruption is a check that fails on what is read here; nothing is written after it.
     ensures damaged { IfDamaged result (IsFailedCheck files.now (F.told folder.new)) }
 
-    // An observable folder reports corruption only for an item that may not go out.
+    // An observable folder reports corruption only for an item that may not be removed.
     ensures untold { UndamagedWhere result (F.told folder.old) (MayGoOut node found.now.entry found.now.before) }
 
     ensures writes { MayWrite F.told F.faults folder.old folder.new (IfDevice result) }

@@ -51,7 +51,7 @@ pub fn remove_part<F: Folder>(
     // What lay in unlinked places, as its main item, loads yet by itself.
     ensures keeps { OnOk result (ForNext (F.told folder.old) node found.now (LeavesOthers (F.told folder.new))) }
 
-    // While a part goes after its main item, the durable contents with its object doomed are recovered.
+    // While a part is removed after its main item, the durable contents with its object doomed are recovered.
     ensures part { ForPart (F.told folder.old) node found.now (StopsPart (F.told folder.old) (F.told folder.new)) }
 
     ensures is_open { ForSome (F.told folder.new).files (IsOpen files.now) }

@@ -20,7 +20,7 @@ use blk_record::EntryView;
 use blk_script::{print_bytes, print_number};
 use blk_stream::read;
 
-// The bytes that are read and printed at a time.
+// How many bytes are read and printed at a time.
 const PIECE: u64 = 4096;
 
 /// A range of a stream of a record: how many bytes from an offset on.

@@ -24,10 +24,10 @@ impl<'a> Model for BlockHead<'a> {
 }
 
 impl<'a> BlockHead<'a> {
-    /// The bytes that the fields take, before the map.
+    /// How many bytes the fields take, before the map.
     pub const LEN: usize = 80;
 
-    /// The bytes of the header with its map, before the first block.
+    /// How many bytes the header has with its map, before the first block.
     pub const HEADER_LEN: u64 = 8192;
 
     /// The magic number of a block file.
@@ -48,7 +48,7 @@ impl<'a> BlockHead<'a> {
     /// The place of the number of the file, which is in a word with that of the next.
     pub const THIS_FILE: u64 = 8;
 
-    /// The place of the bytes of a block.
+    /// The place of the size of a block.
     pub const ENTRY_SIZE: u64 = 12;
 
     /// The place of the number of the next file of the kind.
@@ -116,7 +116,7 @@ impl<'a> BlockHead<'a> {
         half(self.window, Self::NEXT_FILE as usize)
     }
 
-    /// The bytes of a block.
+    /// How many bytes a block has.
     pub fn entry_size(&self) -> u32
         ensures { result ≡ entry_size_of (content self.now) }
     {

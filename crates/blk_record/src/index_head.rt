@@ -24,10 +24,10 @@ impl<'a> Model for IndexHead<'a> {
 }
 
 impl<'a> IndexHead<'a> {
-    /// The bytes that the fields take, before the table.
+    /// How many bytes the fields take, before the table.
     pub const LEN: usize = 368;
 
-    /// The bytes of a whole index.
+    /// How many bytes a whole index has.
     pub const INDEX_LEN: u64 = 262_512;
 
     /// The magic number of an initialized index.

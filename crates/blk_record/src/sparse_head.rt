@@ -24,7 +24,7 @@ impl<'a> Model for SparseHead<'a> {
 }
 
 impl<'a> SparseHead<'a> {
-    /// The bytes before the bitmap.
+    /// How many bytes are before the bitmap.
     pub const LEN: usize = 64;
 
     /// The view of a window that has the bytes.

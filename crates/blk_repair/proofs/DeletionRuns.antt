@@ -1,4 +1,4 @@
--- Deletions, one after the other: what goes, what stays, and what is there in the end.
+-- Deletions, one after the other: what is deleted, what stays, and what is there in the end.
 use Rattle.std.proofs.Common.{◌≡◌, ◌≢◌, ◌⊎◌, inl, inr, ⊎_elim, ℕ, zero, suc, ◌-◌, ◌<◌, ◌≤◌, ◌^◌, Bool, true, false, List, [], ◌∷◌, ◌++◌, length, Option, Some, None, is_some, refl, sym, ◌∙◌, ap, subst, arith}
 use Rattle.std.specs.Prelude.{◌==◌, ◌&&◌, ◌||◌, not, nat_lt, if◌then◌else◌}
 use Rattle.std.specs.Cmp.{both_ways}
@@ -121,7 +121,7 @@ only-linked_now : (files : BlockFiles) (image : Image) → IsOpen files image �
 only-linked_now files image is all n small =
     both_ways (has_file image (Block n)) (is_some (linked_as image n)) (λ there. linked-among files image n is.agrees ∙ all n there) (λ linked. linked-there files image n is.agrees (sym (linked-among files image n is.agrees) ∙ linked))
 
--- ---- one file goes
+-- ---- one file is deleted
 
 -- the same files are linked, and each of them is as it was
 pub record KeepsLinked (from image : Image) : Type 0 where
@@ -295,7 +295,7 @@ one-deletion goes next = by_test (goes next)
 none-deleted : (goes : File → Bool) (first : File) (a : Told) → DeletesUpTo goes first first a a
 none-deleted goes first a = record { files = []; listed = λ from there. refl; applies = grows_none refl }
 
--- the next file was listed, and deleted where it goes
+-- the next file was listed, and deleted where it is to be
 next-deleted : {a b c : Told} (goes : File → Bool) (first last next : File) → DeletesUpTo goes first last a b → ForSome b.files (λ image. IsNextFile image (Some last) (Some next)) → Applies b c (deletion_of goes next) → DeletesUpTo goes first next a c
 next-deleted {a} {b} {c} goes first last next made is applies = record {
   files = made.files ++ next ∷ [];
@@ -311,7 +311,7 @@ next-deleted {a} {b} {c} goes first last next made is applies = record {
       (grows_then made.applies applies);
 }
 
--- no file after the last one goes
+-- no file after the last one is deleted
 all-deleted : {a b : Told} (goes : File → Bool) (first last : File) → DeletesUpTo goes first last a b → ForSome b.files (λ image. (file : File) → IsBefore last file → has_file image file ≡ true → goes file ≡ false) → DeletesAll goes first a b
 all-deleted {a} {b} goes first last made rest = record {
   last = last;
@@ -328,7 +328,7 @@ breaks-one {a} {b} goes file P is leaves applies = by_test (goes file) refl appl
     by_test true e made = breaks-step P refl made tt (λ image there. (is image there, leaves e image there))
     by_test false e made = breaks-none P (told_same a b made) is
 
--- where a file doesn't go, nothing was done
+-- where a file isn't to be deleted, nothing was done
 unless-goes : {a b : Told} (goes : File → Bool) (file : File) → goes file ≡ false → Applies a b (deletion_of goes file) → b ≡ a
 unless-goes {a} {b} goes file stays applies = told_same a b (subst (λ (t : Bool). Applies a b (if t then Delete file ∷ [] else [])) stays applies)
 

@@ -83,7 +83,7 @@ rebuilds-break a b files claims entry from there next made =
       unmarked = spare-all claims (all_files files) from next.holds.writable.has_header made.steps from made.are.along made.are.needed;
     }
 
--- the unlinked block files go, and then the unclaimed external files
+-- the unlinked block files are deleted, and then the unused external files
 pub deletions-break : (claims : Claims) (a b c : Told) (entry from : Image) → a.files ≡ Some from → IsNextRebuilt entry claims from → RepairBreaksOff a b (IsMidDeletion entry from)
     → ForSome b.files (λ mid. (entry : Image) → IsNextRebuilt entry claims mid → RepairBreaksOff b c (IsMidDeletion entry mid)) → RepairBreaksOff a c (IsMidRepair entry)
 deletions-break claims a b c entry from there next first second =
@@ -91,7 +91,7 @@ deletions-break claims a b c entry from there next first second =
     let rest : IsNextRebuilt entry claims now.0 = claims-next entry from now.0 claims next (any_end first.passes now.0 now.1) in
     breaks-then (breaks-weaker first (deletion-mid entry from)) (breaks-weaker (second now.0 now.1 entry rest) (deletion-mid entry now.0))
 
--- the block files are repaired, and then the others go
+-- the block files are repaired, and then the other files are deleted
 pub store-breaks : (claims : Claims) (a b c : Told) (entry from : Image) → a.files ≡ Some from → IsNextRebuilt entry claims from → RepairBreaksOff a b (IsMidRepair entry) → ForSome b.files (AreFilesMended entry from)
     → ForSome b.files (λ mid. (entry : Image) → IsNextRebuilt entry claims mid → RepairBreaksOff b c (IsMidRepair entry)) → RepairBreaksOff a c (IsMidRepair entry)
 store-breaks claims a b c entry from there next first mended second =

@@ -73,7 +73,7 @@ module _ (image : Image) (nodes others : List ℕ) (scanned : IsListScanned node
   end-writes =
       ap (end_writes_of (list_of done)) ((completions-done image scanned.writable).walk ∙ sym scanned.walked) ∙ writes-are (list_of done) nodes
 
-  -- the nodes that go out are those that are not kept
+  -- the nodes that are removed are those that are not kept
   dropped : dropped_nodes (ended_image image) ≡ all_but nodes others
   dropped = dropped-are image scanned.well_formed scanned.writable ∙ sym (ap₂ all_but scanned.walked scanned.kept_nodes)
 

@@ -1,4 +1,4 @@
--- How the steps of the parts of repair go one after the other.
+-- How the steps of the parts of repair follow one another.
 use Rattle.std.proofs.Common.{◌≡◌, ℕ, zero, suc, ◌+◌, ◌<◌, ◌≤◌, ◌%◌, ◌^◌, Bool, List, [], ◌++◌, Some, None, refl, ◌∙◌, ap, subst, arith}
 use Rattle.std.specs.Prelude.{filter, length, not}
 use Rattle.std.specs.Option.{ForSome, option_map}

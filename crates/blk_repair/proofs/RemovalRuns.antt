@@ -54,7 +54,7 @@ rests-pass walked kept i p w inside is first =
     let next = first-is w (drop p kept) first in
     ap₂ all_but (at-place walked i w inside is) next.1 ∙ but-kept w (drop (i + 1) walked) next.0 ∙ ap (all_but (drop (i + 1) walked)) (sym (drop-next kept next.0 p w next.1))
 
--- any other goes out, and then those after it
+-- any other node is removed, and then those after it
 pub removal-leads : (walked kept : List ℕ) (i p w : ℕ) → i < length walked → w ≡ get_or walked i w → is_first w (drop p kept) ≡ false
     → Leads (removal_steps (all_but (drop i walked) (drop p kept))) (operation_steps remove w) (removal_steps (all_but (drop (i + 1) walked) (drop p kept)))
 removal-leads walked kept i p w inside is other image =

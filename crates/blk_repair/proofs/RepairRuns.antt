@@ -1,4 +1,4 @@
--- How the parts of repair go one after the other, and what each hands on.
+-- How the parts of repair follow one another, and what each hands on.
 use Rattle.std.proofs.Common.{◌≡◌, inl, inr, ⊎_elim, ℕ, ◌≤◌, ◌%◌, ◌^◌, Bool, List, Option, None, Some, Result, Ok, Err, OnOk, refl, sym, ◌∙◌, ap, subst, arith, [], ◌∷◌, ◌++◌}
 use Rattle.std.specs.Prelude.{All, map, length, Contains}
 use Rattle.std.specs.List.{filter, flat_map}
@@ -181,7 +181,7 @@ deletion-mid entry from image mid = keeps-mid entry image mid.holds.keeps
 pub claims-next : (entry from image : Image) (claims : Claims) → IsNextRebuilt entry claims from → IsMidDeletion entry from image → IsNextRebuilt entry claims image
 claims-next entry from image claims next mid = record { holds = mid.holds; claimed = next.claimed }
 
--- the unlinked block files and the unused external files are gone
+-- the unlinked block files and the unused external files are deleted
 others-deleted : (entry from mid last : Image) (claims : Claims) → IsNextRebuilt entry claims from → IsMidDeletion entry from mid → OnlyLinked mid → IsMidDeletion entry mid last → OnlyClaimed last (claims_of_loaded (kept last)) → AreOthersDeleted entry from last
 others-deleted entry from mid last claims next first linked second claimed = record {
   holds = second.holds;

@@ -18,7 +18,7 @@ use blk_lru::remove;
 
 /// Removes the walked nodes that aren't kept from the LRU list, in its order. Those that are kept are some of the walked ones, in the same order.
 ///
-/// A node goes out by an operation of its own, so by at most 17 folder calls; a list in which all nodes are kept takes
+/// A node is removed by an operation of its own, so by at most 17 folder calls; a list in which all nodes are kept takes
 /// none. A failed check is one of `remove`.
 pub fn remove_others<F: Folder>(
     folder: &mut F,

@@ -15,7 +15,7 @@ pub read_text-empty : (line : List ℕ) → length line ≤ 2200000 → length l
 unfolding read_text
 read_text-empty line short none = cond-false _ _ _ (le-ltb 2200000 (length line) short) ∙ cond-true _ _ _ (eq-eqb (length line) 0 none)
 
--- any other line goes by its first field
+-- any other line is read by its first field
 pub read_text-fields : (line word : List ℕ) (fields : List (List ℕ)) → length line ≤ 2200000 → 0 < length line → line_fields line ≡ word ∷ fields → read_text line ≡ by_word word fields command_words
 unfolding read_text
 read_text-fields line word fields short some e =

@@ -78,7 +78,7 @@ module _ (entry : ℕ) (image : Image) (once : repeats (claims_of_all (places_of
   streams_apart (suc (suc (suc i))) j a b differ some other = absurd (let h : suc (suc (suc i)) < 3 = a in omega (arith, h))
   streams_apart i (suc (suc (suc j))) a b differ some other = absurd (let h : suc (suc (suc j)) < 3 = b in omega (arith, h))
 
-  -- nor any with the record
+  -- no stream shares a block with the record
   pub record_apart : (j : ℕ) → j < 3 → kind_of entry ≡ blocks_256 → kind_of (A j) ≢ external → ShareNoBlock entry (A j)
   record_apart j small kind blocky =
       (owners_apart entry (A 0 ∷ A 1 ∷ A 2 ∷ []) (A j) once (in_tail (entry == A j) refl (stream_among entry j image small)) (entry_some entry kind) (blocky_some (A j) blocky)).blocks (not_external entry kind) blocky

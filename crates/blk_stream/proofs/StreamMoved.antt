@@ -240,7 +240,7 @@ module _ (files kept : BlockFiles) (entry i size : ℕ) (old : Stored) (kind : k
       other_here : have_one_storage (size_word from entry i) size ≡ false
       other_here = ap (λ (n : ℕ). have_one_storage n size) words.size_is ∙ other
 
-      -- an old place goes
+      -- an old place is freed
       module _ (addr : ℕ) (addr_is : old.addr ≡ Some addr) where
         word_here : addr ≡ address_word from entry i
         word_here = sym (ap (λ (o : Option ℕ). unwrap_or o 0) addr_is) ∙ sym words.word_is
@@ -304,7 +304,7 @@ module _ (files kept : BlockFiles) (entry i size : ℕ) (old : Stored) (kind : k
       let word = fill_writes files kept entry i size old kind stands small keeps has real other from (agrees from there) can (words from there) offset cut bytes in
       passes_weaker (fill_stops from there (can_here from there can)) word word
 
-  -- an old place goes
+  -- an old place is freed
   module _ (addr : ℕ) (addr_is : old.addr ≡ Some addr) where
     pub leave_passes : ForSome m.files (λ B. record_bytes ≡ record_at B entry → RecordChecks entry B → Passes m b (LeavesPlaceInProgress entry i addr size w B))
         → ForSome a.files (λ from. CanBeWritten files entry i size from → (cut : Bool) → size ≡ size_after cut old.size offset (length bytes) → Passes a b (WritesStream files entry i size offset cut bytes from))
@@ -382,7 +382,7 @@ module _ (files kept : BlockFiles) (entry i size : ℕ) (old : Stored) (kind : k
           left = subst (λ (v : ℕ). HasLeftPlace entry i (address_word from entry i) size v mid.image image) w_is left;
         })
 
-    -- an old place goes
+    -- an old place is freed
     module _ (addr : ℕ) (addr_is : old.addr ≡ Some addr) where
       word_now : (from : Image) → a.files ≡ Some from → addr ≡ address_word from entry i
       word_now from there = sym (ap (λ (o : Option ℕ). unwrap_or o 0) addr_is) ∙ sym (words from there).word_is

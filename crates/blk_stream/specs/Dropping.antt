@@ -62,7 +62,7 @@ pub record KeepsStream (entry i : ℕ) (from image : Image) : Type 0 where
   pub word : address_word image entry i ≡ address_word from entry i
 
 -- the first `count` streams of a record were dropped: they are empty, their blocks (and no others) are cleared in the maps and are allocations no longer, their
--- external files are gone; the later streams are unchanged, the record's checksum matches or is absent, and the headers are kept
+-- external files are deleted; the later streams are unchanged, the record's checksum matches or is absent, and the headers are kept
 pub record AreDropped (count entry : ℕ) (from image : Image) : Type 0 where
   pub same : SameOutside (dropping_of count entry from) from image
   pub checks : RecordChecks entry image
@@ -83,8 +83,8 @@ pub record DropsInProgress (entry : ℕ) (from image : Image) : Type 0 where
   pub headers : KeepsHeaders from image
   pub order : (i : ℕ) → i < 3 → SameOutside (either (dropping_of i entry from) (stream_words entry i)) from image ⊎ IsEmptyStream entry i image
 
--- stream i was dropped: it is empty, its blocks are cleared in the map and no allocation any more, or its external file is gone; nothing else has changed, and
--- the record's checksum matches or is absent
+-- stream i was dropped: it is empty, its blocks are cleared in the map and no allocation any more, or its external file is deleted; nothing else has changed,
+-- and the record's checksum matches or is absent
 pub record DropsStream (entry i : ℕ) (from image : Image) : Type 0 where
   pub same : SameOutside (either (stream_words entry i) (leaving_of (address_word from entry i))) from image
   pub checks : RecordChecks entry image

@@ -29,7 +29,7 @@ is_block_of w n b = if kind_of w == external then false else is_of w n b
 unfoldable pub left_by : ℕ → ℕ → List ℕ → List ℕ
 left_by w n words = if is_in_file n w then others w words else words
 
--- address w is freed: its external file is gone, or its blocks (and no others) are cleared in the map; w is an allocation no longer, and nothing else has
+-- address w is freed: its external file is deleted, or its blocks (and no others) are cleared in the map; w is an allocation no longer, and nothing else has
 -- changed but the counters of its file
 pub record IsPlaceFreed (w : ℕ) (from image : Image) : Type 0 where
   pub same : SameOutside (freeing_of w) from image

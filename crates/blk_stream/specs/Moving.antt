@@ -24,7 +24,7 @@ use Rattle.blk_io.specs.declared.fault.Damage.{Damage}
 -- The record names the new place, and then the old one is freed.
 
 -- the record has the new words of stream i, and the old address is freed: its blocks (and no others) are cleared and it is an allocation no longer, or its file
--- is gone; nothing else has changed, the record's checksum matches or is absent, and the headers are kept
+-- is deleted; nothing else has changed, the record's checksum matches or is absent, and the headers are kept
 pub record LeavesPlace (entry i old size word : ℕ) (from image : Image) : Type 0 where
   pub same : SameOutside (either (stream_words entry i) (freeing_of old)) from image
   pub checks : RecordChecks entry image

@@ -45,7 +45,7 @@ unfoldable pub moved_by : ℕ → ℕ → ℕ → List ℕ → List ℕ
 moved_by old new n words = if old == new then words else left_by old n (gained_by new n words)
 
 -- a stream moved from address `old` to `new`: in the files of the table exactly the new blocks were marked and the old ones cleared, their allocations have
--- `new` instead of `old`, and `empty` agrees where it did; in an added file `new` is the only allocation; and the old external file is gone
+-- `new` instead of `old`, and `empty` agrees where it did; in an added file `new` is the only allocation; and the old external file is deleted
 pub record MovesPlace (files : BlockFiles) (old new : ℕ) (from image : Image) : Type 0 where
   pub marks : (n b : ℕ) → is_among (all_files files) n ≡ true → b < most_blocks → is_block_marked image n b ≡ (if is_block_of new n b then true else if is_block_of old n b then false else is_block_marked from n b)
   pub allocations : (n : ℕ) (words : List ℕ) → is_among (all_files files) n ≡ true → AreAllocations from n words → (is_in_file n old ≡ true → is_among words old ≡ true) → AreAllocations image n (moved_by old new n words)

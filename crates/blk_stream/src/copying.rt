@@ -15,7 +15,7 @@ use blk_disk::BlockFiles;
 use blk_entry::{read_data, write_data};
 use blk_io::{Fault, Folder};
 
-// The bytes that are copied at a time.
+// How many bytes are copied at a time.
 const PIECE: u32 = 4096;
 
 // Copies data from one place on and before another to the same places of another address, in pieces of at most 4096 bytes.

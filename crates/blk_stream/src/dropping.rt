@@ -28,7 +28,7 @@ pub fn drop_streams<F: Folder>(f: &mut F, files: &BlockFiles, entry: Addr) -> Re
     requires agrees { ForSome (F.told f.old).files (Agrees files.now) }
     ensures checked { OnOk result (ForSome (F.told f.old).files (RecordChecks entry)) }
 
-    // No stream has bytes or a place; the blocks of those that did aren't marked, and their files are gone; all else is as before.
+    // No stream has bytes or a place; the blocks of those that did aren't marked, and their files are deleted; all else is as before.
     ensures dropped { OnOk result (ForSome (F.told f.old).files (λ from. ForSome (F.told f.new).files (AreDropped 3 entry from))) }
     ensures agrees { ForSome (F.told f.new).files (Agrees files.now) }
 

@@ -15,7 +15,7 @@ use blk_io::Fault;
 use blk_model::MOST_STREAM;
 use blk_record::{EntryView, Record};
 
-// The bytes of a stream: how many there are, and where they lie, if there are any.
+// The storage of a stream: how many bytes there are, and where they lie, if there are any.
 #[derive(Clone, Copy)]
 pub(crate) struct Stored {
     pub(crate) size: u32,

@@ -70,7 +70,7 @@ other_role image whole key loaded said is none =
     let p : not (is_part loaded) ≡ false = ap not (part_said loaded.key loaded.role said.role is.is.role) ∙ none in rw p refl
 other_role image (parent_of name) key loaded said is none = no_parent_said (record { key = key; signature = cast_unsigned w64 name.signature; part = name.part }) loaded.key loaded.role said.role is.is.role none
 
--- nor is one with another key
+-- a record with another key isn't sought
 pub other_key : (sought : Sought) (key : List ℕ) (loaded : shown.Loaded) → bytes_eq loaded.key key ≡ false → is_sought sought key loaded ≡ false
 other_key part key loaded none = rw none (and_false (is_part loaded))
 other_key whole key loaded none = rw none (and_false (not (is_part loaded)))
@@ -102,7 +102,7 @@ none_by_hash image sought key hash loaded said is known same = by_test (said.has
     by_test true e = same (eqb-true _ _ e)
     by_test false e = other_hash sought key loaded hash is (λ h. clash (sym (eq-eqb _ _ (known.is.hash ∙ h)) ∙ e))
 
--- the same with the length of the key
+-- a record with another hash or another length of its key isn't sought
 pub none_alike : (image : Image) (sought : Sought) (given loaded : shown.Loaded) (said one : Loaded) → IsLoadedFrom image given said → IsLoadedFrom image loaded one → (one.hash ≡ said.hash → one.key_len ≡ said.key_len → is_role_sought sought one.role ≡ false) → is_sought sought given.key loaded ≡ false
 none_alike image sought given loaded said one known is none = none_by_hash image sought given.key said.hash loaded one known.is.hash is by_length
   where

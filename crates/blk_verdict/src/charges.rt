@@ -6,7 +6,7 @@ ghost use Rattle.blk_verdict.specs.Charges.{charge_said};
 use crate::loading::Loaded;
 
 impl Loaded {
-    /// The bytes of its key and of its streams, indexes included.
+    /// How many bytes its key and its streams have, indexes included.
     pub fn charge(&self) -> u64
         ensures charge { result ≡ charge_said self.now }
         ensures few { result < 2 ^ 34 }
@@ -16,7 +16,7 @@ impl Loaded {
     }
 }
 
-/// The bytes of the keys and the streams of several.
+/// How many bytes the keys and the streams of several have.
 pub fn charge_of_all(kept: &[Loaded]) -> u64
     requires few { length kept.now ≤ 131072 }
     ensures { result ≡ sum_by charge_said kept.now }

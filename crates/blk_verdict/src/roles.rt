@@ -20,7 +20,7 @@ use blk_io::{Fault, Folder};
 use blk_ranges::{ChildName, PART_SIZE, ParentHead, ParentMap, PartMap, read_child_name};
 use blk_record::{CHILD, PARENT, SparseHead};
 
-// The bytes of the indexes of a parent and of a part.
+// How many bytes the indexes of a parent and of a part have.
 const PARENT_INDEX: u32 = ParentMap::LEN as u32;
 
 const PART_INDEX: u32 = PartMap::LEN as u32;

@@ -156,7 +156,7 @@ module _ {V : Type 0} (see : V → Option Page) where
       deeper : is_some (see e.1) ≡ true → {k : ℕ} → GivesWay (x ∷ es) k → GivesWay (e ∷ x ∷ es) k
       deeper holds g = record { front = e ∷ g.front; value = g.value; behind = g.behind; is = ap (λ l. e ∷ l) g.is; full = something (see e.1) (held g.front) holds ∙ ap suc g.full; last = g.last }
 
-  -- once it holds nothing, the page that was evicted is gone
+  -- once it holds nothing, the page that was evicted isn't held
   pub makes_room : (places k : ℕ) (es : List (ℕ × V)) (w : V) (g : GivesWay es k) → length es ≡ places → see w ≡ None → held (g.front ++ (k, w) ∷ g.behind) ≡ dropped places (held es)
   makes_room places k es w g count empty =
       held-append g.front ((k, w) ∷ g.behind) ∙ ap (λ o. held g.front ++ cons_option o (held g.behind)) empty ∙ by_last g.last
@@ -184,7 +184,7 @@ module _ {V : Type 0} (see : V → Option Page) where
           seam : g.behind ≡ [] → length (held g.front) ≡ places - 1
           seam none = omega (arith, g.full, count, lengths, ap length none)
 
-  -- a page is put into a free slot, which goes to the front
+  -- a page is put into a free slot, which comes to the front
   pub puts_page : (k : ℕ) (es : List (ℕ × V)) (v w : V) (s : Split k es v) (new : Page) → see v ≡ None → see w ≡ Some new → held ((k, w) ∷ (s.front ++ s.behind)) ≡ new ∷ held es
   puts_page k es v w s new free full =
       ap (λ o. cons_option o (held (s.front ++ s.behind))) full
@@ -392,7 +392,7 @@ module _ {V : Type 0} (see : V → Option Page) where
             free = λ w empty. ap (λ l. option_map see (lookup (nat_eq k) l)) (set_in_place k es g.value w s) ∙ ap (option_map see) (lookup-split k g.front g.behind w s.none) ∙ ap Some empty;
           }
 
-  -- a page in a free slot goes to the front
+  -- a page in a free slot comes to the front
   pub puts : (k : ℕ) (es : List (ℕ × V)) (w : V) (new : Page) → option_map see (lookup (nat_eq k) es) ≡ Some None → see w ≡ Some new
       → filter_map (λ slot. see slot.1) (set_value (nat_eq k) (moved k es) w) ≡ new ∷ filter_map (λ slot. see slot.1) es
   puts k es w new free full = by_slot (lookup (nat_eq k) es) refl free

@@ -18,7 +18,7 @@ use crate::tag::PAGE_SIZE;
 use blk_io::{Failed, FileId, Folder};
 use std::alloc::{AllocError, Global};
 
-/// A folder over another, which keeps the pages that were used last. Writes go through.
+/// A folder over another, which keeps the pages that were used last. Writes are made in the folder inside at once.
 #[derive(Drop)]
 pub struct Window<F: Folder> {
     inner: F,

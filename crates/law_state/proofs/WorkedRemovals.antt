@@ -188,7 +188,7 @@ none-gone = refl
 pub b_is_evicted : KeepsUncounted (without ([] ++ whole (codes "b") [] ∷ []) worked) (layout_removed worked_layout (nodes 2) (records 2)) (words_of the_plain ++ []) without_b
 b_is_evicted = plain-groups-go worked [] worked_layout [] worked_folder without_b 0 plain_object [] the_plain (subst (λ (m : State). KeepsUncounted m worked_layout [] worked_folder) none-gone worked-keeps.entries) (unfold computing in refl) refl refl (unfold computing in refl) removed_b
 
--- the same is said of the state without its main item
+-- the state without the eviction unit of `b` is the one without its main item
 b_goes_whole : IsWithout worked (doomed 0 worked (Some plain_object)).objects (is_of_another (codes "b")) (main (codes "b"))
 b_goes_whole = (unheld-go worked 0 plain_object worked-keeps.entries.valid refl refl refl (λ n. refl) (state_doomed worked worked-keeps.entries.valid 0 plain_object refl refl)).0
 
@@ -212,7 +212,7 @@ part_is_gone = part-removed worked worked_layout [] worked_folder without_part 1
 part_is_not_found : Finds (rest (without (single (codes "a") 0 ∷ []) worked)) without_part
 part_is_not_found = (removing-part worked worked_layout [] worked_folder without_part 1 0 sparse_object the_part worked-keeps.entries refl refl refl).1 removed_part.removing
 
--- nor was it once its node was out of the list
+-- the part wasn't found either once its node was out of the list
 pub part-unlisted : IsRemovalDone worked_folder (nodes 1) (unlisted worked_folder (nodes 1))
 part-unlisted = out-of-list worked worked_layout (λ item. true) chain_of [] worked_folder all_kept worked-writable (part (codes "a") 0) the_part refl [] (nodes 0 ∷ nodes 2 ∷ []) refl 0xB6C alone_part
 
@@ -304,7 +304,7 @@ a_is_whole_out = record {
 a_is_removed : KeepsUncounted (doomed 1 worked (Some sparse_object)) (layout_without_key worked worked_layout (codes "a") chains_left) (words_of_key worked worked_layout (codes "a") ++ []) without_a
 a_is_removed = whole-removed worked worked_layout [] chains_left worked_folder without_a 1 sparse_object worked-keeps.entries refl refl refl a_is_whole_out
 
--- the same is said of the state without its items
+-- the state with `a` doomed is the one without its items
 a_goes_whole : IsLess worked (doomed 1 worked (Some sparse_object)).objects (is_of_another (codes "a"))
 a_goes_whole = unheld-less worked 1 sparse_object worked-keeps.entries.valid refl refl refl (state_doomed worked worked-keeps.entries.valid 1 sparse_object refl refl)
 

@@ -136,7 +136,7 @@ pub record Represents (view : View) (state : State) (layout : Layout) : Type 0 w
 
 -- Records in the midst of a change.
 
--- as much of `Holds` as recovery needs, but for some nodes, whose records are in the midst of a change or gone
+-- as much of `Holds` as recovery needs, but for some nodes, whose records are in the midst of a change or removed
 pub record HoldsExcept (except : ℕ → Bool) (store : StoreView) (state : State) (layout : Layout) : Type 0 where
   pub no_record : store.entry 0 ≡ None
   pub each : (node : ℕ) (loaded : Loaded) → layout.at node ≡ Some loaded → except node ≡ false → load store (rule_of layout node) node ≡ Ok loaded

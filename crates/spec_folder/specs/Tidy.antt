@@ -44,7 +44,7 @@ pub record HasState (state : State) (layout : Layout) (numbers : List ℕ) (imag
 
 -- Changes after the headers.
 
--- a change of bytes that touches no header of a block file, and by which no file comes, goes or changes its length
+-- a change of bytes that touches no header of a block file, and by which no file is made or deleted or changes its length
 pub record IsBehindHeaders (footprint : Footprint) : Type 0 where
   pub bytes : (n i : ℕ) → i < header_size → footprint.bytes (Block n) i ≡ false
   pub sizes : (file : File) → footprint.sizes file ≡ false

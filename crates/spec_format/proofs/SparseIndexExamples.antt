@@ -13,7 +13,7 @@ head magic key_len last_block last_block_len = word_bytes 5 ++ word_bytes 0 ++ w
 abbrev pub parent_bytes : List ℕ
 parent_bytes = head 0xC103CAC3 7 0xFFFFFFFF 0 ++ 1 ∷ replicate 8190 0 ++ 128 ∷ []
 
--- what it says: the signature, the length of the key, and whether it may have the parts 0, 1, 65535 and 65536
+-- what a parent's index says: the signature, the length of the key, and whether it may have the parts 0, 1, 65535 and 65536
 abbrev pub parent_says : List ℕ → Option (ℕ × ℕ × Bool × Bool × Bool × Bool)
 parent_says bytes = option_map (λ index. (index.signature, index.key_len, index.has_part 0, index.has_part 1, index.has_part 65535, index.has_part 65536)) (read_parent_index bytes)
 

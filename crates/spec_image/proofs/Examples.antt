@@ -144,7 +144,7 @@ true_notes_go_on = are_true-append 0 (Note 1 ∷ Delete Index ∷ Note 2 ∷ [])
 a_number_skipped : AreTrue 0 (Note 2 ∷ []) → ⊥
 a_number_skipped is = let wrong : ◌≡◌ {A = ℕ} 2 (0 + 1) = is.0 in omega (arith, wrong)
 
--- directly after the note, and only then, the external file is gone
+-- directly after the note, and only then, the external file is deleted
 abbrev gone_when_noted : List TrailStep → Image → Type 0
 gone_when_noted made image = (before : List TrailStep) → made ≡ before ++ Note 1 ∷ [] → has_file image (External 1) ≡ false
 

@@ -12,7 +12,7 @@ use Rattle.spec_image.proofs.Splices.{length-spliced, content-zeros, content-spl
 pub same-word_at : (f g : ℕ → ℕ) (i : ℕ) → f i ≡ g i → f (i + 1) ≡ g (i + 1) → f (i + 2) ≡ g (i + 2) → f (i + 3) ≡ g (i + 3) → word_at f i ≡ word_at g i
 same-word_at f g i a b c d = omega arith
 
--- the same on n bytes from place i on
+-- two contents have the same n bytes from place i on
 abbrev pub SameFrom : ℕ → ℕ → (ℕ → ℕ) → (ℕ → ℕ) → Type 0
 SameFrom i n f g = (k : ℕ) → i ≤ k → k < i + n → f k ≡ g k
 

@@ -18,7 +18,7 @@ unfolding with_bytes
 with_bytes-append cut [] more = refl
 with_bytes-append cut (byte ∷ bytes) more = with_bytes-append (with_byte cut byte) bytes more
 
--- the same cut with lines before it
+-- a cut with lines before its own
 pub before_lines : List (List ℕ) → Cut → Cut
 unfolding with_bytes
 before_lines whole cut = record { whole = whole ++ cut.whole; rest = cut.rest }

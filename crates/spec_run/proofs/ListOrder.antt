@@ -1,4 +1,4 @@
--- What is among some elements, and in which order, once some go or are given as others.
+-- What is among some elements, and in which order, once some are removed or are given as others.
 use Rattle.std.proofs.Common.{ℕ, zero, suc, ◌<◌, ◌≡◌, ◌⊎◌, inl, inr, ⊎_elim, Bool, true, false, cond, List, [], ◌∷◌, length, get_or, Option, None, Some, refl, sym, ◌∙◌, ap, subst, arith}
 use Rattle.std.specs.List.{Contains, cons_option, filter, filter_map}
 use Rattle.spec_run.specs.Laws.{Precedes}

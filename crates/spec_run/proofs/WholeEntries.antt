@@ -178,7 +178,7 @@ fronts_fine a b (item ∷ list) items (inr some) =
 
 -- What a command accesses it doesn't evict.
 
--- an item goes alone, or with its main item
+-- an item is evicted alone, or with its main item
 stays_in : (b : Item) (groups : List Group) → IsNotAlone b groups → is_out groups (main (key_of b)) ≡ false → is_out groups b ≡ false
 stays_in b [] apart main_stays = refl
 stays_in b (whole key parts ∷ groups) apart main_stays =

@@ -30,7 +30,7 @@ const SIGNATURE: i64 = 1;
 
 const CHARGE: u64 = 8257;
 
-// The bytes of the longest key and of the longest name of a part.
+// How many bytes the longest key and the longest name of a part have.
 const NAME_BUFFER_LEN: usize = 65_564;
 
 // No number of a part was given yet, or the numbers of both parts were, in the order of the list.

@@ -5,7 +5,7 @@ use std::alloc::Global;
 /// The byte of which the blocks are full.
 pub const OLD: u8 = 0xAB;
 
-/// The bytes of a header.
+/// How many bytes a header has.
 pub const HEADER_LEN: usize = 8192;
 
 /// The place of a map.

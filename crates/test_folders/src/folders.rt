@@ -49,7 +49,7 @@ pub const SEAL: u64 = 92;
 
 pub const KEY: u64 = 96;
 
-/// The word of node 0, and the bytes of a header.
+/// The word of node 0, and how many bytes a header has.
 pub const NODES: u32 = 0x9000_0000;
 
 const HEADER: u64 = 8192;

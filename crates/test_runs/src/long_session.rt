@@ -16,7 +16,7 @@ const ENTRIES: u32 = 400;
 
 const HANDLES: u32 = 8;
 
-// The bytes of the first stream of each entry.
+// How many bytes the first stream of each entry has.
 const FIRST: usize = 300;
 
 // The most bytes of a stream.

@@ -7,7 +7,7 @@ use std::test::Fail;
 use test_folders::folders::{Mem, OPERATION, TRANSACTION, audited, change_all, dropped_at};
 use test_folders::worked::{N, make_all};
 
-// The bytes of the folder as it is: 22247 of its keys and 32872 of its streams.
+// How many bytes the folder has as it is: 22247 of its keys and 32872 of its streams.
 const BYTES: u64 = 55119;
 
 // Whether exactly these are dropped, in this order.

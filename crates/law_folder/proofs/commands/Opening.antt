@@ -207,7 +207,7 @@ first-listed m i valid some = go (first_with i 0 m.objects) refl some where
       let all = valid.listed i in
       listed-times i m.uses (omega arith)
 
--- the same, where its number is known
+-- an item with a first owner is listed
 pub first-some : (m : State) (i : Item) (j : ℕ) → IsValidState m → first_with i 0 m.objects ≡ Some j → is_listed m i ≡ true
 first-some m i j valid e = first-listed m i valid (ap (λ (o : Option ℕ). is_none o) e)
 

@@ -37,7 +37,7 @@ use Rattle.law_folder.proofs.examples.DamagedParts.{index_head, sparse_view, bot
 abbrev pub parent_bytes : List ℕ
 parent_bytes = index_head ++ 1 ∷ replicate 8191 0
 
--- what it says
+-- what the parent's index says
 abbrev pub parent_index : ParentIndex
 parent_index = record { signature = 5; key_len = 1; has_part = λ n. nat_lt n 65536 && map_bit (content parent_bytes) 64 n }
 
@@ -45,7 +45,7 @@ parent_index = record { signature = 5; key_len = 1; has_part = λ n. nat_lt n 65
 abbrev pub part_bytes : List ℕ
 part_bytes = index_head ++ replicate 128 0
 
--- what it says
+-- what the part's index says
 abbrev pub part_index : PartIndex
 part_index = record { signature = 5; key_len = 1; present = λ b. nat_lt b 1024 && map_bit (content part_bytes) 64 b; partial = None }
 

@@ -97,7 +97,7 @@ pub part-is_not_kept : map volume.row_of_loaded (kept_among family_stock held_ru
 unfolding rest settled_row doomed
 part-is_not_kept = dooms-keep (λ w. false) family_stock named_state family_layout family-holds_but (named-is_valid true) 0 family refl not_main refl others-stay (refl, tt) (λ item h keeps. refl)
 
--- nor at any write of the removal of the part's node, which is alone in the list then
+-- nothing is kept at any write of the removal of the part's node, which is alone in the list then
 abbrev without_main : View
 without_main = record { list = after_writes (writes_of remove parent_node family_view.list) family_view.list; store = family_stock }
 

@@ -8,7 +8,7 @@ use Rattle.blk_handles.proofs.key_map.KeyMap.insert.Goals as goal
 pub unreachable-requires : goal.unreachable-requires
 unreachable-requires c = none-is-some _ c.requires.absent (key_of-at _ (subst IsRising c.self.view_is c.self.invariant.0) _ _ c.in-Ok.ensures.found)
 
--- there is capacity, so the item goes into the gap
+-- there is capacity, so the item is put into the gap
 pub invariant_of-self : goal.invariant_of-self
 invariant_of-self c =
     let items = rw (sym c.is_ok.ensures.value ∙ c.if-prove.false) at c.insert-inserted.ensures.items in
