@@ -16,7 +16,7 @@ use crate::plan::Plan;
 use blk_io::{Fault, FileId, Folder, read_exact};
 use blk_record::BlockHead;
 
-// Marks so many neighbouring blocks of one group as used, or clears their marks; the word of the map that has them was read.
+// Marks some neighbouring blocks of one group as used, or clears their marks; the word of the map that has them was read.
 pub(crate) fn change<F: Folder>(
     folder: &mut F,
     file: u8,

@@ -22,7 +22,7 @@ use blk_disk::BlockFiles;
 use blk_io::{Fault, Folder};
 use std::alloc::Global;
 
-/// A walked node, with what it says of its record.
+/// A walked node, with its words: the record that it names, and its dirty flag.
 #[derive(Clone, Copy, Debug)]
 pub struct WalkedNode {
     /// The address of the node.

@@ -83,7 +83,7 @@ others_are : (new : NewEntry) (key : List ℕ) (moment : ℕ) → (new_record ne
 unfolding new_record
 others_are new key moment = refl
 
--- a record whose checksum matches or is absent loads as what it says
+-- a record whose checksum matches or is absent loads as its words say
 pub checked_loads : (store : StoreView) (node contents dirty : ℕ) (fields : RecordFields) (answer : Result Loaded Reason) → fields.checks ≡ true → load_record store (unchained_rule entry_normal) node contents dirty fields ≡ answer
     → (demand fields.checks reason.Seal >>= (λ _. load_record store (unchained_rule entry_normal) node contents dirty fields)) ≡ answer
 checked_loads store node contents dirty fields answer good is = ap (λ (b : Bool). demand b reason.Seal >>= (λ _. load_record store (unchained_rule entry_normal) node contents dirty fields)) good ∙ is

@@ -187,7 +187,7 @@ pub(crate) fn key_place(files: &BlockFiles, entry: Addr, head: Head) -> Result<K
     }
 }
 
-/// Whether a record may have a key of so many bytes: 1 to 32796, in as many blocks.
+/// Whether a record may have a key of this length: 1 to 32796, in as many blocks.
 #[tactic(auto, unfolding(crate::specs::Keys::may_have))]
 pub fn may_have(entry: Addr, key_len: u32) -> bool
     requires { kind_of entry ≡ blocks_256 }

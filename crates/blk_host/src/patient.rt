@@ -93,7 +93,7 @@ fn unless_blocked(answer: io::Result<usize>) -> Option<io::Result<usize>>
     }
 }
 
-// How long to sleep after so many tries: 1 ms, then twice as long each time, up to the longest sleep.
+// How long to sleep after a number of tries: 1 ms, then twice as long each time, up to the longest sleep.
 fn pause(turn: u64) -> Duration {
     let doubled = 1u64.checked_shl(turn.min(10) as u32).unwrap_or(LONGEST);
     Duration::from_millis(doubled.min(LONGEST))

@@ -26,14 +26,14 @@ IfDevice (Ok a) P = Unit {0}
 IfDevice (Err Device) P = P
 IfDevice (Err (Damaged damage)) P = Unit {0}
 
--- a read of so many bytes at an offset gave fewer: the error has the file and the offset, and as its word how many bytes there were
+-- a read of `count` bytes at an offset gave fewer: the error has the file and the offset, and as its word how many bytes there were
 pub record IsShort (told : Told) (file : FileId) (place count : ℕ) (damage : Damage) : Type 0 where
   pub of_file : damage.file ≡ file
   pub at_place : damage.at ≡ place
   pub few : damage.found < count
   pub many : ForSome told.files (λ image. damage.found ≡ min count (length_of image (file_of file) - place))
 
--- a read of so many bytes at the start of a file gave fewer: the error has the file, offset 0, and as its word how many were given
+-- a read of `count` bytes at the start of a file gave fewer: the error has the file, offset 0, and as its word how many were given
 abbrev pub IsShortAtStart : File → (count given : ℕ) → Damage → Type 0
 IsShortAtStart file count given damage = (given < count) × (damage_of damage ≡ record { file = file; at = 0; found = given })
 

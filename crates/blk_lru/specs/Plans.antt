@@ -13,7 +13,7 @@ abbrev pub word_or_zero : Option ℕ → ℕ
 word_or_zero None = 0
 word_or_zero (Some word) = word
 
--- the writes that take a node out of the list, by its neighbours: those get new links, and at last its own next becomes 0; none where it is in no list
+-- the writes that take a node out of the list, by its neighbours: those get new links, and then its own next becomes 0; none where it is in no list
 abbrev pub leaving : (node : ℕ) → Option Neighbours → List ListWrite
 leaving node None = []
 leaving node (Some neighbours) = unlinking node neighbours.next neighbours.prev ++ Next node 0 ∷ []

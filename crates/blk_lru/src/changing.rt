@@ -1,4 +1,4 @@
-// Changes of the LRU list, each a transaction.
+// Changes of the LRU list, each an operation in flight until its last word.
 ghost use Rattle.std.specs.Prelude.{◌≡◌, ◌≢◌, ◌++◌, ◌∷◌, ◌≤◌, ℕ, List, IfOk, IfSome, IsTrue, None, OnOk, Some, true};
 ghost use Rattle.std.specs.Option.{ForSome};
 ghost use Rattle.spec_image.specs.Told.{Applies, MakesPartOf, Passes, Rises, ReadsOnly};
@@ -29,8 +29,9 @@ use blk_record::{NodeView, WORD_VALUES};
 /// Puts a node at the head of the list. It is not in the list, and fewer than 131072 nodes are.
 ///
 /// The operation word and the transaction word are written, then the node's links, the link of the node that was first, or the last node where there was none,
-/// and the first node; at last the transaction ends. The checksum of a node that is written is 0 first and the hash again in the end. A head that is neither 0
-/// nor the address of a node that is there is corruption, and so is a wrong checksum of a node that is to be written. This takes at most 17 folder calls.
+/// and the first node; in the end the transaction word becomes 0. The checksum of a node that is written is 0 first and the hash again in the end. A head that
+/// is neither 0 nor the address of a node that is there is corruption, and so is a wrong checksum of a node that is to be written. This takes at most 17 folder
+/// calls.
 pub fn insert_front<F: Folder>(f: &mut F, files: &BlockFiles, node: Addr) -> Result<(), Fault>
     requires stands { IsTrue (is_node_among files.now node) }
     requires is_open { ForSome (F.told f.old).files (IsOpen files.now) }
@@ -61,9 +62,9 @@ pub fn insert_front<F: Folder>(f: &mut F, files: &BlockFiles, node: Addr) -> Res
 
 /// Takes a node out of the list.
 ///
-/// The operation word and the transaction word are written, then the links of the nodes beside it, or the first or the last node, and at last its own next
-/// becomes 0 and the transaction ends. The checksum of a node that is written is 0 first and the hash again in the end. A link of the node that isn't the
-/// address of a node that is there is corruption, and so is a wrong checksum of a node that is to be written. This takes at most 17 folder calls.
+/// The operation word and the transaction word are written, then the links of the nodes beside it, or the first or the last node, and then its own next
+/// becomes 0 and so does the transaction word. The checksum of a node that is written is 0 first and the hash again in the end. A link of the node that isn't
+/// the address of a node that is there is corruption, and so is a wrong checksum of a node that is to be written. This takes at most 17 folder calls.
 pub fn remove<F: Folder>(f: &mut F, files: &BlockFiles, node: Addr) -> Result<(), Fault>
     requires stands { IsTrue (is_node_among files.now node) }
     requires is_open { ForSome (F.told f.old).files (IsOpen files.now) }
@@ -96,8 +97,8 @@ pub fn remove<F: Folder>(f: &mut F, files: &BlockFiles, node: Addr) -> Result<()
 /// Moves a listed node to the head of the list, and sets its two times to a moment.
 ///
 /// The operation word and the transaction word are written, the node is taken out, the operation word becomes that of an insert, and the node is put at the
-/// head; then the transaction ends. Where the node is the first one already no transaction is started. At last the times are written. Failed checks are those
-/// of an insert and a removal. This takes at most 36 folder calls.
+/// head; then the transaction word becomes 0. Where the node is the first one already no operation is started. In the end the times are written. Failed checks
+/// are those of an insert and a removal. This takes at most 36 folder calls.
 pub fn touch<F: Folder>(f: &mut F, files: &BlockFiles, node: Addr, moment: u64) -> Result<(), Fault>
     requires stands { IsTrue (is_node_among files.now node) }
     requires is_open { ForSome (F.told f.old).files (IsOpen files.now) }

@@ -40,11 +40,11 @@ pub(crate) enum Usable<T> {
     Fails,
 }
 
-/// Redoes the operation in flight, if there is one, and ends its transaction.
+/// Redoes the operation in flight, if there is one, and ends it.
 ///
 /// An operation counts where its code is that of an insert, a removal or a move, and its node and the nodes that it uses are there with checksums that match
-/// or are absent: the first one for an insert and a move, and those beside the node for a removal and a move. One that doesn't count is given up: its
-/// transaction alone ends. Where there is none in flight nothing is written. The list need not be whole. This takes at most 34 folder calls.
+/// or are absent: the first one for an insert and a move, and those beside the node for a removal and a move. One that doesn't count is given up: only
+/// the transaction word becomes 0. Where there is none in flight nothing is written. The list need not be whole. This takes at most 34 folder calls.
 pub fn complete<F: Folder>(f: &mut F, files: &BlockFiles) -> Result<(), Fault>
     requires is_open { ForSome (F.told f.old).files (IsOpen files.now) }
     ensures sealed { OnOk result (ForSome (F.told f.old).files (λ from. ForSome (F.told f.new).files (Seals from (completion_writes (list_of from))))) }
@@ -68,7 +68,7 @@ pub fn complete<F: Folder>(f: &mut F, files: &BlockFiles) -> Result<(), Fault>
     perform(f, files, &plan)
 }
 
-/// What the redo would write, in order: what is left of the operation in flight, or the end of its transaction where it doesn't count.
+/// What the redo would write, in order: what is left of the operation in flight, or its end alone where it doesn't count.
 ///
 /// It is nothing where no operation is in flight. Nothing is written, and at most 6 folder calls are made.
 pub fn pending<F: Folder>(folder: &mut F, files: &BlockFiles) -> Result<Plan, Fault>

@@ -1,6 +1,6 @@
 //! The LRU list of a cache folder: its nodes in the order of their last use, linked both ways.
 //!
-//! Each change is a transaction, so that a crash after any word leaves a list that the redo makes whole.
+//! Each change is an operation in flight until its last word, so that a crash after any word leaves a list that the redo makes whole.
 #![tactic(auto)]
 
 mod changing;

@@ -85,7 +85,7 @@ pub(crate) fn pending_of(node: Addr, operation: &Operation) -> Plan
     plan
 }
 
-// The one write that ends a transaction.
+// The one write that ends an operation in flight.
 pub(crate) fn ending() -> Plan
     ensures { map meant result.items ≡ list.Transaction 0 ∷ [] }
 {

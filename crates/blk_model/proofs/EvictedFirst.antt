@@ -36,7 +36,7 @@ left_first groups item start (slot ∷ slots) stays =
     ap (λ b. cond b (Some start) (first_with item (start + 1) (map (option_and_then (left_of groups)) slots))) here
     ∙ ap (cond (slot_has_item item slot) (Some start)) (left_first groups item (start + 1) slots stays)
 
--- an item that nobody has nobody has afterwards
+-- an item that no object has no object has afterwards
 left_none : (groups : List Group) (item : Item) (start : ℕ) (slots : List (Option Object)) → first_with item start slots ≡ None → first_with item start (map (option_and_then (left_of groups)) slots) ≡ None
 left_none groups item start [] none = refl
 left_none groups item start (slot ∷ slots) none = go (slot_has_item item slot) refl none (left_none groups item (start + 1) slots) where
@@ -132,7 +132,7 @@ module _ (state : State) (group : Group) (groups : List Group) where
         ∙ ap (λ r. cond o.object.settled r None) (row_same item o stays)
         ∙ sym ((settled_chooses state).somebody item o)
 
--- Items that stay, or that nobody has.
+-- Items that stay, or that no object has.
 
 abbrev pub StaysOrNobody : State → List Group → Item → Type 0
 StaysOrNobody state groups item = (is_out groups item ≡ false) ⊎ (owner state item ≡ None)
@@ -218,7 +218,7 @@ fronts_dooms P to_list state = tt
 fronts_dooms P (to_trim bytes) state = tt
 fronts_dooms P to_total state = tt
 
--- What a command accesses stays, or nobody has it.
+-- What a command accesses stays, or no object has it.
 
 loose_prefix : (stays : Item → Bool) (first others : List Group) → AllByRecursion (IsLoose stays) (first ++ others) → AllByRecursion (IsLoose stays) first
 loose_prefix stays [] others all = tt

@@ -32,7 +32,7 @@ slot_of_main all (main_row other kind others ∷ rows) (suc k) d key shape strea
 slot_of_main all (part_row other n value ∷ rows) zero d key shape streams within e = cc
 slot_of_main all (part_row other n value ∷ rows) (suc k) d key shape streams within e = slot_of_main all rows k d key shape streams (omega arith) e
 
--- an object in a slot, that has an item that nobody else has, gives the item's row
+-- an object in a slot, that has an item that no other object has, gives the item's row
 row_from_slot : (state : State) (item : Item) (n : ℕ) (object : Object) (row : Row) → object_at state n ≡ Some object → slot_has_item item (Some object) ≡ true → owners item state.objects ≤ 1 → object.settled ≡ true → row_in object item ≡ Some row → settled_row state item ≡ Some row
 unfolding settled_row
 row_from_slot state item n object row here has few settled is =

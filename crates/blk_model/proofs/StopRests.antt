@@ -129,7 +129,7 @@ picked_before before after closes leads item =
           ∙ sym (settles.somebody item o)
     ] refl
 
--- an item of a fresh object was nobody's
+-- no object had an item of a fresh object before
 pub fresh_owner : (before : State) (item : Item) (new : Object) → has_item new item ≡ true → IsFresh before new → Owner before item → ⊥
 fresh_owner before item new has fresh o =
     let has_main = owners-has (main (key_of item)) o.number before.objects (ap (slot_has_item (main (key_of item))) o.here ∙ has_item_main item (Some o.object) o.has) in

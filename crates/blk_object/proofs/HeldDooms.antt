@@ -109,7 +109,7 @@ module _ (state : State) (layout : Layout) (number : ℕ) (object : Object) (loa
   its-node : is_among gone node ≡ true
   its-node = groups.goes state layout keep o.keeps.numbers o.keeps.lies o.keeps.owners (main object.key) listed main-goes
 
-  -- its record is nobody's who isn't out
+  -- no node that isn't out owns the object's record
   apart : (c : Claim) (n : ℕ) → layout.owner c ≡ Some n → is_among gone n ≡ false → has_claim (claims_of entry) c ≡ false
   apart c n own stays = ⊎_elim
       (λ (h : has_claim (claims_of entry) c ≡ true).

@@ -92,7 +92,7 @@ growth-stored from image grown state layout unlinked k size w bytes among is =
     same-stored (is_absent from) from image (growth-absent from image grown) size w bytes
     (λ c has. words-there from unlinked c k.unlinked_words.stand (of-all unlinked w c among has)) is
 
--- an external file that is made is nobody's
+-- an external file that is made has no owner
 pub made-stored : (w : ℕ) (from image : Image) → AddsExternal from w image → KeepsStored from image
 made-stored w from image adds state layout unlinked k size v bytes among is = same-stored (λ claim. same_claim claim (ExternalOf (external_number w))) from image adds.agree size v bytes clear is where
   others : List ℕ

@@ -100,7 +100,7 @@ module _ (a b : Told) (files kept : BlockFiles) (entry i offset : ℕ) (cut : Bo
   object-untold {A} r untold from there state layout unlinked number object was t =
       untold (λ x is. subst (λ (y : Image). CanBeWritten files entry i (size_after cut (size_word y entry i) offset (length bytes)) y) (some_inj (sym there ∙ is)) (can from there state layout unlinked number object was t))
 
-  -- an observable folder, with such an object, has a whole index then
+  -- an observable folder, with such an object, reports no short index
   pub index-untold : {A : Type 0} (r : Result A Fault) → ForSome a.files (λ from. ForEachUnsettled entry i offset cut bytes from (λ state layout unlinked number object was. Passes a b (Finds (rest state))))
       → ForSome a.files (λ from. ForEachUnsettled entry i offset cut bytes from (λ state layout unlinked number object was. ForSome b.files (IsWrittenUncounted state layout unlinked number object was i offset cut bytes from)))
       → (ForSome b.files HasWholeIndex → IfDamaged r (λ _. b.files ≡ None)) → ForSome a.files (λ from. ForEachUnsettled entry i offset cut bytes from (λ state layout unlinked number object was. IfDamaged r (λ _. a.files ≡ None)))
@@ -179,7 +179,7 @@ module _ (a b : Told) (files kept : BlockFiles) (entry i offset : ℕ) (cut : Bo
   part-untold {A} r untold from there state layout unlinked number object n value was role t =
       untold (λ x is. subst (λ (y : Image). CanBeWritten files entry i (size_after cut (size_word y entry i) offset (length bytes)) y) (some_inj (sym there ∙ is)) (can-part from there state layout unlinked number object n value was role t))
 
-  -- an observable folder, with such a part, has a whole index then
+  -- an observable folder, with such a part, reports no short index
   pub part-index-untold : {A : Type 0} (r : Result A Fault) → ForSome a.files (λ from. ForEachPartUnsettled entry i offset cut bytes from (λ state layout unlinked number object n value was role. Passes a b (Finds (rest state))))
       → ForSome a.files (λ from. ForEachPartUnsettled entry i offset cut bytes from (λ state layout unlinked number object n value was role. ForSome b.files (IsPartWrittenUncounted state layout unlinked number object n value was role i offset cut bytes from)))
       → (ForSome b.files HasWholeIndex → IfDamaged r (λ _. b.files ≡ None)) → ForSome a.files (λ from. ForEachPartUnsettled entry i offset cut bytes from (λ state layout unlinked number object n value was role. IfDamaged r (λ _. a.files ≡ None)))

@@ -46,7 +46,7 @@ front-or-all (z ∷ s) x (y ∷ made) left e = on (front-or-all s x made left (t
     on (inl more) = inl (more.0, ap (λ (w : TrailStep). w ∷ s) heads ∙ ap (λ (l : List TrailStep). y ∷ l) more.1)
     on (inr same) = inr (ap (λ (w : TrailStep). w ∷ made) (sym heads) ∙ ap (λ (l : List TrailStep). z ∷ l) same)
 
--- of steps that spare it and one that makes it 1, the first spare it, or they are all
+-- of steps that leave the crash word and one that makes it 1, the first of them leave it, or they are all of them
 pub spare-or-ended : (s made left : List TrailStep) → SpareIt s → s ++ word_step Index crash_place 1 ≡ made ++ left → SpareIt made ⊎ (made ≡ s ++ word_step Index crash_place 1)
 unfolding word_step
 spare-or-ended s made left spare e =
@@ -59,7 +59,7 @@ spare-or-ended s made left spare e =
 pub breaks-none : {a b : Told} (P : Image → Type 0) → b ≡ a → ForSome a.files P → RepairBreaksOff a b P
 breaks-none P same holds = record { passes = record { steps = []; applies = grows_none same; unnoted = tt; along = holds }; unmarked = All-nil IsOther }
 
--- a part of some steps was, which spares it
+-- a part of some steps was made, which leaves the crash word
 pub breaks-prefix : {a b : Told} {s : List TrailStep} (P : Image → Type 0) (part : AppliesPrefix a b s) → HasNoNote s → SpareIt part.made → ForSome a.files (λ image. Along P image s) → RepairBreaksOff a b P
 breaks-prefix {a} {b} {s} P part quiet spare along = record {
   passes = record {
@@ -75,7 +75,7 @@ breaks-prefix {a} {b} {s} P part quiet spare along = record {
 pub breaks-part : {a b : Told} {s : List TrailStep} (P : Image → Type 0) → AppliesPrefix a b s → HasNoNote s → SpareIt s → ForSome a.files (λ image. Along P image s) → RepairBreaksOff a b P
 breaks-part {a} {b} {s} P part quiet spare along = breaks-prefix P part quiet (spare-prefix part.made part.left (subst SpareIt part.split spare)) along
 
--- one was, which spares it
+-- one step was made, which leaves the crash word
 pub breaks-step : {a b : Told} {x : TrailStep} (P : Image → Type 0) → IsOther x → Applies a b (x ∷ []) → HasNoNote (x ∷ []) → ForSome a.files (λ image. P image × P (applied x image)) → RepairBreaksOff a b P
 breaks-step {a} {b} {x} P other made quiet both = record { passes = record { steps = x ∷ []; applies = made; unnoted = quiet; along = both }; unmarked = All-cons IsOther x [] other (All-nil IsOther) }
 

@@ -1,8 +1,9 @@
 //! Recovery of a folder, by what its scan reported.
 //!
-//! `repairing` is the whole of it, joined of its parts: `list` repairs the LRU list, for which `removals` takes the nodes out that are not kept, `chains` makes
-//! a bucket the chain of its kept records, and `tables` does so with every bucket; after them `maps` makes lengths, maps and counters of the block files right,
-//! `deletions` deletes the files that nothing names, `seals` writes the absent checksums of what is kept, and `counters` makes the words of the index right.
+//! `repairing` does all of it, one part after another: `list` repairs the LRU list, for which `removals` takes out the nodes that are not kept; `tables` makes
+//! each bucket the chain of its kept records, for which `chains` does one bucket, by the words that `links` writes; after them `maps` makes lengths, maps and
+//! counters of the block files right, `deletions` deletes the files that nothing names, `seals` writes the absent checksums of what is kept, and `counters`
+//! makes the words of the index right.
 #![tactic(auto)]
 
 mod chains;

@@ -56,7 +56,7 @@ pub enum Verdict {
     Dropped(Reason),
 }
 
-/// The verdict on a node, as it says what it names and whether it is dirty.
+/// The verdict on a node, by the record that it names and by whether it is dirty.
 ///
 /// One folder call reads the record, and one its key; the others are those of `load_walked`. `reached` says whether a chain
 /// reaches the contents. A failed check is a read that gave too few bytes; a folder whose files are those of `files` gives none.

@@ -159,7 +159,7 @@ WrittenDoomedDirtyWordsSettle = (old new : View) (state : State) (layout : Layou
 abbrev pub RepresentedHoldExcept : Type 0
 RepresentedHoldExcept = (except : ℕ → Bool) (view : View) (state : State) (layout : Layout) → Represents view state layout → HoldsExcept except view.store state layout
 
--- a store view that has a state but for some nodes has it but for more nodes
+-- a store view that represents a state but for some nodes does so but for more nodes
 abbrev pub MoreMayBeLeftOut : Type 0
 MoreMayBeLeftOut = (except more : ℕ → Bool) (store : StoreView) (state : State) (layout : Layout) → HoldsExcept except store state layout → ((node : ℕ) → except node ≡ true → more node ≡ true) → HoldsExcept more store state layout
 

@@ -1,4 +1,4 @@
--- What leaves repaired links repaired, with the same kept: changes of what isn't kept, growth, and checksums.
+-- What leaves repaired links repaired, with the same kept records and recovered contents: changes of what isn't kept, growth, and checksums.
 use Rattle.std.specs.Prelude.{◌≡◌, ◌<◌, ◌%◌, ℕ, Bool, true, false, [], map, None}
 use Rattle.spec_image.specs.Image.{Index, Block, External}
 use Rattle.spec_image.specs.Footprint.{SameOutside, one_word, whole}
@@ -31,7 +31,7 @@ pub record KeepsMendedLinks (from image : Image) : Type 0 where
 abbrev pub RepairedLinksAreKept : Type 0
 RepairedLinksAreKept = (from image : Image) → HoldsTheSame from image → HasMendedLinks image → KeepsMendedLinks from image
 
--- two changes one after the other that keep links repaired, with the same kept, are together such a change
+-- two changes one after the other that keep links repaired, with the same kept records and recovered contents, are together such a change
 abbrev pub MendedLinksGoOn : Type 0
 MendedLinksGoOn = (from between image : Image) → KeepsMendedLinks from between → KeepsMendedLinks between image → KeepsMendedLinks from image
 

@@ -155,7 +155,7 @@ links-find state layout unlinked key loaded handle from between image k n valid 
 
 -- ---- what is kept
 
--- one more slot at the end dooms nobody
+-- one more slot at the end dooms no object
 same-dead : (slots : List (Option Object)) (key : List ℕ) (n : ℕ) → is_dead (get_or (slots ++ Some (new_object key) ∷ []) n None) ≡ is_dead (get_or slots n None)
 same-dead [] key zero = refl
 same-dead [] key (suc n) = refl

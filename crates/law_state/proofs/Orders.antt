@@ -27,7 +27,7 @@ left-stops state moment request held image left finds = record {
   left = subst (λ (rows : List Row). StopOutcome state moment request (step state moment request).state rows) (sym finds.1) left;
 }
 
--- an item that stays, or that nobody has, is durable as it was
+-- an item that stays, or that no object has, is durable as it was
 settled-both : (state : State) (groups : List Group) (item : Item) → StaysOrNobody state groups item → settled_row (without groups state) item ≡ settled_row state item
 unfolding without
 settled-both state [] item either = refl

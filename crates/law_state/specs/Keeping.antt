@@ -1,4 +1,4 @@
--- What a folder keeps between two calls of a command: a state, by where it lies, and the address words that the command has and nobody names yet.
+-- What a folder keeps between two calls of a command: a state, by where it lies, and the address words that the command has and nothing names yet.
 use Rattle.std.specs.Prelude.{◌≡◌, ◌≢◌, ℕ, ◌<◌, ◌%◌, ◌^◌, List, [], ◌++◌, length, filter, true, false, IfSome, is_some}
 use Rattle.std.specs.List.{AllByRecursion, flat_map, sum_by}
 use Rattle.std.specs.declared.option.Option.TheVariants.{None, Some}
@@ -55,7 +55,7 @@ pub record AreOwners (state : State) (layout : Layout) (numbers : List ℕ) : Ty
   pub once : Distinct (all_nodes state layout numbers)
   pub doomed : AreNumbers state layout numbers
 
--- unlinked words are valid, are nobody's, and share no block and no external number
+-- unlinked words are valid, what they name has no owner, and they share no block and no external number
 pub record AreUnlinked (image : Image) (layout : Layout) (unlinked : List ℕ) : Type 0 where
   pub stand : AllByRecursion (λ w. stands_in image w ≡ true) unlinked
   pub free : (claim : Claim) → has_claim (claims_of_all unlinked) claim ≡ true → layout.owner claim ≡ None
@@ -98,7 +98,7 @@ pub record KeepsUncounted (state : State) (layout : Layout) (unlinked : List ℕ
   pub owners : AreOwners state layout numbers
   -- maps, counters, lengths, links and external files are exactly those of the words in use
   pub files : AreFiles image (words_in_use unlinked (all_loaded state layout numbers))
-  -- the unlinked words are nobody's
+  -- the unlinked words name what has no owner
   pub unlinked_words : AreUnlinked image layout unlinked
   -- nodes and records have their checksums
   pub sealed : AllAreSealed image layout

@@ -53,11 +53,11 @@ DoomedObjectsFindTheSame = (touched : Claim → Bool) (state : State) (layout : 
 abbrev pub is_owned_by : ℕ → Option ℕ → Bool
 is_owned_by node owner = option_map_or (λ n. n == node) owner false
 
--- the owners with something else at a node: what it uses is its own, what was the node's and it doesn't use is nobody's
+-- the owners with something else at a node: what it uses is its own, what was the node's and it doesn't use has no owner
 abbrev pub owner_after : Layout → ℕ → Loaded → Claim → Option ℕ
 owner_after layout node now claim = if has_claim (all_claims now) claim then Some node else if is_owned_by node (layout.owner claim) then None else layout.owner claim
 
--- the layout with another record at a node: what it uses is its own, what was the node's and it doesn't use is nobody's
+-- the layout with another record at a node: what it uses is its own, what was the node's and it doesn't use has no owner
 abbrev pub layout_after : Layout → ℕ → Loaded → Layout
 layout_after layout node now = changed_at layout node now (owner_after layout node now)
 

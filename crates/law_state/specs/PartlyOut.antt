@@ -34,7 +34,7 @@ abbrev pub left_nodes : State → Layout → (Item → Bool) → List ℕ → Li
 left_nodes state layout keep numbers = nodes_of layout (filter keep state.uses) ++ doomed_nodes layout numbers
 
 -- of a state that was kept the items that aren't kept are out of the list and of the chains, which are these; what lies at the other nodes is there, and maps,
--- counters and external files are those of its words and of the unlinked ones, which are nobody's or of what is out
+-- counters and external files are those of its words and of the unlinked ones, which name what has no owner or is out
 pub record KeepsPartlyOut (state : State) (layout : Layout) (keep : Item → Bool) (chains : ℕ → List ℕ) (unlinked : List ℕ) (image : Image) : Type 0 where
   pub valid : IsValidState state
   pub sound : HasSoundHeaders image

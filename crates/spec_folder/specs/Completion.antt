@@ -42,7 +42,7 @@ unlinking node next prev =
     then (if next == node then Head 0 ∷ Tail 0 ∷ [] else Prev next next ∷ Head next ∷ [])
     else (if next == node then Next prev prev ∷ Tail prev ∷ [] else Next prev next ∷ Prev next prev ∷ [])
 
--- taking a node out: nothing where its next is 0; else its neighbours change, and at last its next becomes 0
+-- taking a node out: nothing where its next is 0; else its neighbours change, and then its next becomes 0
 abbrev pub taking_out : (node next prev : ℕ) → List ListWrite
 taking_out node next prev = if next == 0 then [] else unlinking node next prev ++ Next node 0 ∷ []
 

@@ -32,7 +32,7 @@ with_item layout item loaded = record layout {
   owner = λ claim. if has_claim (all_claims loaded) claim then Some loaded.node else layout.owner claim;
 }
 
--- an item may come to a state at a loaded node: it isn't listed, the record there has its row, dirty flag and parent, and node and blocks are nobody's
+-- an item may come to a state at a loaded node: it isn't listed, the record there has its row, dirty flag and parent, and node and blocks have no owner
 pub record IsNewItem (state : State) (objects : List (Option Object)) (layout : Layout) (item : Item) (loaded : Loaded) : Type 0 where
   pub unlisted : is_listed state item ≡ false
   pub row : model.row_of (record state { objects = objects }) item ≡ Some (row_of_loaded loaded)
@@ -44,7 +44,7 @@ pub record IsNewItem (state : State) (objects : List (Option Object)) (layout : 
 
 -- A new object.
 
--- a dirty plain record with this key and empty streams is valid by itself, and its node and blocks are nobody's
+-- a dirty plain record with this key and empty streams is valid by itself, and its node and blocks have no owner
 pub record IsNewEntry (store : StoreView) (layout : Layout) (key : List ℕ) (loaded : Loaded) : Type 0 where
   pub loads : load store (unchained_rule entry_normal) loaded.node ≡ Ok loaded
   pub key_is : loaded.key ≡ key

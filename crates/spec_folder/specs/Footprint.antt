@@ -1,4 +1,4 @@
--- Two views that agree outside a footprint: some blocks and external numbers; and which bytes of files these cover.
+-- Two views that agree outside a footprint: some blocks and external numbers; and which bytes of files these contain.
 use Rattle.std.specs.Prelude.{◌≡◌, ◌⊎◌, ℕ, ◌+◌, ◌<◌, ◌≤◌, Bool, true, false, not, ◌&&◌, ◌||◌, ◌==◌, nat_le, is_some}
 use Rattle.std.specs.Option.{option_map_or}
 use Rattle.std.specs.declared.option.Option.TheVariants.{Some}
@@ -32,7 +32,7 @@ pub record SameStore (touched : Claim → Bool) (old new : StoreView) : Type 0 w
       → nat_le fields.key_len longest_short_key ≡ true → old.key_place w fields.key_len ≡ new.key_place w fields.key_len
   pub stored : (size w : ℕ) → IsClear touched w → old.stored size w ≡ new.stored size w
 
--- two views of the LRU list agree on head, tail and transaction, and on the nodes outside a footprint; the operation isn't read where no transaction is in
+-- two views of the LRU list agree on head, tail and transaction, and on the nodes outside a footprint; the operation word isn't read where no operation is in
 -- flight
 pub record SameLinks (touched : Claim → Bool) (old new : ListView) : Type 0 where
   pub head : old.head ≡ new.head
@@ -64,7 +64,7 @@ pub record OnlyLinksChange (w : ℕ) (old new : StoreView) : Type 0 where
   pub beside : SameExceptAt w old new
   pub entry : (u : ℕ) → old.entry u ≡ new.entry u
 
--- The bytes of files that a footprint of blocks covers.
+-- The bytes of files that a footprint of blocks contains.
 
 -- a footprint of bytes and files lies in these blocks and external numbers: it has no shown place of the index, no length, next_file or max_entries of a block
 -- file, and no other block

@@ -50,7 +50,7 @@ steps_of_touch node moment image = touch_steps node moment (touch_writes node (l
 abbrev pub completion_steps : Image → List TrailStep
 completion_steps image = steps_of_writes (completion_writes (list_of image)) image
 
--- the redo gives the same LRU list of two images, but for the operation word, which nobody reads then
+-- the redo gives the same LRU list of two images, but for the operation word, which isn't read then
 abbrev pub CompletesAlike : Image → Image → Type 0
 CompletesAlike from image = completed_but_operation (list_of image) ≡ completed_but_operation (list_of from)
 

@@ -46,7 +46,7 @@ front_of list (Some node) = list.next node
 abbrev pub ending_writes : ListView → Option ℕ → List ListWrite
 ending_writes list last = ending_by last (front_of list last) list.tail
 
--- the LRU list after its redo, but for the operation word, which nobody reads while no transaction is in flight
+-- the LRU list after its redo, but for the operation word, which isn't read while no operation is in flight
 unfoldable pub completed_but_operation : ListView → ListView
 completed_but_operation list = record (completed_list list) { operation = 0 }
 

@@ -24,7 +24,7 @@ loaded_at layout nodes = filter_map layout.at nodes
 abbrev pub doomed_nodes : Layout → List ℕ → List ℕ
 doomed_nodes layout numbers = map layout.place_of_doomed numbers
 
--- files, counters and checksums are in order for what lies at the nodes of a layout
+-- files, counters and checksums agree with what lies at the nodes of a layout
 pub record IsTidy (image : Image) (state : State) (layout : Layout) (numbers : List ℕ) : Type 0 where
   pub only_linked : OnlyLinked image
   pub long_enough : AreLongEnough image
@@ -33,8 +33,8 @@ pub record IsTidy (image : Image) (state : State) (layout : Layout) (numbers : L
   pub counts : count_of (byte image Index) ≡ counting (length state.uses) (sum_by charge_of (loaded_at layout (order state layout)))
   pub sealed : (node : ℕ) (loaded : Loaded) → layout.at node ≡ Some loaded → AreSealed image loaded
 
--- an image has a state by a layout, in which these are the numbers of the doomed objects: it is well formed and represents the state, its maps and
--- external files are exact, and its files, counters and checksums are in order
+-- an image represents a state by a layout, its files too, and these are the numbers of the doomed objects: it is well formed, its view represents the state,
+-- its maps and external files are exact, and its files, counters and checksums agree with the layout
 pub record HasState (state : State) (layout : Layout) (numbers : List ℕ) (image : Image) : Type 0 where
   pub valid : IsValidState state
   pub well_formed : IsWellFormed image

@@ -34,7 +34,7 @@ module _ (f : ℕ → ℕ) (items sum : ℕ) (counts : count_of f ≡ counting i
   unfolding count_of
   its-nodes = ap (λ (c : Count). c.nodes) counts
 
-  -- the version that is made now counts as it says
+  -- an index of the version that is made now counts by the words of that version
   pub counts-as : CountsAs items sum (count_of f)
   unfolding count_of
   counts-as = record { entries = its-entries; nodes = its-nodes; first = λ is. absurd (let c : true ≡ false = sym is ∙ ap (λ (v : ℕ). v == first_version) its-version in cc); now = λ is. (its-bytes, its-bytes64) }

@@ -212,7 +212,7 @@ fn an_opening_raises_the_index(rt: HostRuntime) -> Result<(), Fail> {
     Ok(())
 }
 
-// A transaction that names no block of its file is none, and is taken away.
+// An operation in flight on a node in no block of its file doesn't count, and is ended.
 #[test]
 fn a_transaction_that_does_not_count_is_ended(rt: HostRuntime) -> Result<(), Fail> {
     let mut f = SilentFolder::new(MemFolder::new(rt.alloc()));

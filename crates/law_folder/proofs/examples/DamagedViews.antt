@@ -150,9 +150,9 @@ ring_walk : walk ring.list ≡ 0x90000000 ∷ 0x90000001 ∷ []
 unfolding ring walk walk_from
 ring_walk = refl
 
--- Transactions.
+-- Operations in flight.
 
--- a transaction on a node that isn't there doesn't count, nor does one of an unknown operation; a removal of a node whose neighbours are there counts
+-- an operation in flight on a node that isn't there doesn't count, nor does an unknown one; a removal of a node whose neighbours are there counts
 with_operation : ℕ → ℕ → ListView
 with_operation transaction operation = record looped.list { transaction = transaction; operation = operation }
 

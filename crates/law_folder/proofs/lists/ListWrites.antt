@@ -214,7 +214,7 @@ pub EachMoment-first : (P : ListView → Type 0) (ws : List ListWrite) (l : List
 EachMoment-first P [] l each = each
 EachMoment-first P (w ∷ ws) l each = each.0
 
--- where no transaction is pending
+-- where no operation is in flight
 pub outcome_done : (l : ListView) → l.transaction ≡ 0 → completed_but_operation l ≡ rested l
 unfolding completed_but_operation completed_list counts
 outcome_done l e = rw e
@@ -279,7 +279,7 @@ module _ (n : ℕ) (l : ListView) (o : l.operation ≡ 3) (r : l.transaction ≡
         EachMoment-map (λ u. completed_but_operation u ≡ completed_but_operation T1) _ (λ u q. q ∙ turned) (putting_in_front n T.head) T1 (insert_keeps n T1 refl k.transaction_is nz k.node_good (k.head_good head_good)),
       )
 
--- what a transaction that counts says
+-- what is so where an operation in flight counts
 pub record Counting (l : ListView) : Type 0 where
   pub not_zero : eqb l.transaction 0 ≡ false
   pub good : l.checks l.transaction ≡ true
@@ -308,7 +308,7 @@ pub after_writes-append : (ws vs : List ListWrite) (l : ListView) → after_writ
 after_writes-append [] vs l = refl
 after_writes-append (w ∷ ws) vs l = after_writes-append ws vs (with_write l w)
 
--- the transaction word becomes 0 at last
+-- the transaction word becomes 0 in the end
 finish : (ws : List ListWrite) (l T : ListView) → AtEachWrite (λ u. completed_but_operation u ≡ T) ws l → rested (after_writes ws l) ≡ T → AtEachWrite (λ u. completed_but_operation u ≡ completed_but_operation l) (ws ++ Transaction 0 ∷ []) l
 finish ws l T each same =
     EachMoment-map (λ u. completed_but_operation u ≡ T) (λ u. completed_but_operation u ≡ completed_but_operation l) (λ u q. q ∙ sym (EachMoment-first (λ u. completed_but_operation u ≡ T) ws l each)) (ws ++ Transaction 0 ∷ []) l
