@@ -139,7 +139,7 @@ adds_last old mid late new w words same others last = record {
     moved true b c = refl
     moved false b c = refl
 
--- nothing joins it twice in a row
+-- what nothing joins twice in a row is unchanged
 pub still_same : (old mid new : Claims) → IsUnchanged old mid → IsUnchanged mid new → IsUnchanged old new
 still_same old mid new one other = record {
   claims = λ c. other.claims c ∙ one.claims c;

@@ -31,7 +31,7 @@ module _ (n : ℕ) where
   pub at_map : IsWithin (range (Block n) 80 8112) (counts_of n)
   at_map = within-trans (range (Block n) 80 8112) emptied (counts_of n) (within_right (range (Block n) 24 16) (range (Block n) 80 8112)) (within_right (one_word (Block n) 16) emptied)
 
-  -- all of it with updating
+  -- the map is in the footprint of the counters
   pub counts_within : IsWithin (counts_of n) (map_of n)
   counts_within = record { bytes = λ file i e. by_test (same_file (Block n) file) i e; sizes = λ file e. e }
     where

@@ -102,7 +102,7 @@ module _ (f : File) (place : ℕ) (bytes : List ℕ) (n : ℕ) (long : length by
   pub written_same : ((i : ℕ) → i < n → content bytes i ≡ byte from f (place + i)) → AreBytesWritten f place bytes n from from
   written_same same = record { same = outside-refl (range f place n) from; there = λ i small. sym (same i small) }
 
-  -- and bytes of a step
+  -- the bytes of a step are written
   pub written_step : place + n ≤ length_of from f → AreBytesWritten f place bytes n from (applied (Word f place bytes) from)
   written_step inside = record {
     same = subst (λ (k : ℕ). SameOutside (range f place k) from (applied (Word f place bytes) from)) long (outside_write f place bytes from);

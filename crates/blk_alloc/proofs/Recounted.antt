@@ -111,7 +111,7 @@ module _ (n a : ℕ) (number : List ℕ) (bytes_of_number : number ≡ word_byte
             (λ (past : part.words ≤ i). inl (word_beside_range (Block n) 24 (4 * part.words) (24 + 4 * i) mid image (inr (omega (arith, past))) part.written.same ∙ runs_stay i)) (cases_lt i part.words);
       }
 
-      -- all are written
+      -- all counters are written
       pub counters_are : AreBytesWritten (Block n) 24 bytes (length bytes) mid image → HasTheseCounters (byte image (Block n)) a e
       counters_are written =
           let all : AreBytesWritten (Block n) 24 bytes (4 * 4) mid image = subst (λ (k : ℕ). AreBytesWritten (Block n) 24 bytes k mid image) long written in

@@ -215,7 +215,7 @@ pub named_step : (nodes : Nodes) (walked : List ℕ) (old new : Claims) (i : ℕ
 named_step nodes walked old new i None is same are = subst (λ (claims : Claims). AreNamedUpTo nodes walked claims (i + 1)) (sym same) (named_none nodes walked old i is are)
 named_step nodes walked old new i (Some w) is more are = named_next nodes walked old new i w is more are
 
--- all of them were
+-- all walked nodes were looked at
 pub named_all : (nodes : Nodes) (walked : List ℕ) (named : Claims) (n : ℕ) → length walked ≤ n → AreNamedUpTo nodes walked named n → AreNamed nodes walked named
 named_all nodes walked named n all are i w is = by (slice_get walked i) refl
   where

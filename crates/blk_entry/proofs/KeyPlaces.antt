@@ -633,7 +633,7 @@ key_by_bytes image entry key kind has = (
       record { len = sym (ap length at ∙ length-range (entry_at image entry).key_len (data_start (key_address entry (entry_at image entry).key_len (entry_at image entry).long_key) + bytes_before (entry_at image entry).key_len) (byte image (data_file (key_address entry (entry_at image entry).key_len (entry_at image entry).long_key)))); bytes = at },
 )
 
--- no bytes are the same
+-- no bytes are those of any place
 pub none_same : (f : ℕ → ℕ) (i : ℕ) (rest : List ℕ) → (length rest == 0) ≡ true → rest ≡ range_at f i (length rest)
 unfolding range_at
 none_same f i [] e = refl

@@ -131,7 +131,7 @@ module _ (from image : Image) (w mark : ℕ) (kind : kind_of w ≡ rankings) (sm
       standing : stands_in from w ≡ true
       standing = stands_here files from w agrees address (λ e. let z : ◌≡◌ {A = ℕ} 1 0 = sym kind ∙ e in cc) st
 
-  -- all of it
+  -- the end of that update
   pub marked_at : IsUpdated from w (dirty_change mark) image → AreBytes image → HasDirtySet from w mark image
   unfolding record_at
   marked_at done below =

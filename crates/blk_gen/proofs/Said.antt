@@ -70,7 +70,7 @@ turned most number turn following h =
     either (most + 4) (is_refused opened) following uses (allowing most (most + 4) following (omega arith) h) (
     allowing (most + 1 + 1 + 1) (most + 4) uses (omega arith) (used most number turn following h)))))
 
--- so many iterations
+-- some whole iterations
 all_turns : (left number value : ℕ) → Says (5 * left) (turns_script left number value)
 unfolding turns_script turns counts_after state_after
 all_turns zero number value counts from clock = (record { text = append-nil (closing_text counts from); quiet = refl }, omega arith)

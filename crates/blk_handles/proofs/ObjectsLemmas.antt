@@ -25,7 +25,7 @@ module _ (keys : List RecordKey) (s : Slab OpenObject) (index : IsIndexOf keys s
   pub closed : (entry : ℕ) → key_for keys entry ≡ None → IsClosed s entry
   closed entry absent key object here same = none-is-some (key_for keys entry) absent (subst (λ e. key_for keys e ≡ Some key) same (index.found key object here))
 
-  -- and the other way round
+  -- a record that is that of no object isn't in the map
   pub absent : (entry : ℕ) → IsClosed s entry → key_for keys entry ≡ None
   absent entry none = by (key_for keys entry) refl where
     by : (o : Option ℕ) → key_for keys entry ≡ o → o ≡ None

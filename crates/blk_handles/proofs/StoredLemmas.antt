@@ -297,7 +297,7 @@ module _ (ns : List (Option ℕ)) (s : Slab OpenObject) (sound : AreNamesStored 
         (rw (is, here, same-number k) (omega (arith, one)))
         (omega (arith, len, sound.object_count, keys-left, ap {B = ℕ} (λ b. cond b 0 1) (list_any-uncounted (is_number k) (set ns name None) (omega (arith, recounted, one)))))
 
-    -- and no other name shows it
+    -- no other name shows an object that is taken out
     pub shown-last : o.names ≡ 1 → Updates s t k None → bindings_of (set ns name None) t ≡ set (bindings_of ns s) name None
     shown-last one updates = same-slots (shown t) (shown s) (set ns name None) refl (λ i j at. ap (option_map binding) (updates.others j (other i j at))) ∙ map-set (shown s) ns name None where
       other : (i j : ℕ) → get_or (set ns name None) i None ≡ Some j → j ≢ k

@@ -119,7 +119,7 @@ module _ (state : State) (group : Group) (groups : List Group) where
         ∙ ap (λ r. cond (stays_through state after with o.number) r None) (row_same item o stays)
         ∙ sym ((picked_chooses state after with).somebody item o)
 
-  -- and is durable as it was
+  -- an item that isn't out is durable as it was
   pub settled_left : (item : Item) → is_out (group ∷ groups) item ≡ false → settled_row (without (group ∷ groups) state) item ≡ settled_row state item
   unfolding left_has settled_row
   settled_left item stays = go (owner state item) refl where

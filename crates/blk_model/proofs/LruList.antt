@@ -46,7 +46,7 @@ outs (group ∷ groups) items =
     ∙ filter_twice (λ i. not (is_out groups i)) (λ i. not (takes i group)) items
     ∙ filter_agree (λ i. not (takes i group) && not (is_out groups i)) (λ i. not (is_out (group ∷ groups) i)) (λ i. not_or (takes i group) (is_out groups i)) items
 
--- and all at once
+-- eviction units that are evicted all at once
 pub without_uses : (groups : List Group) (state : State) → not_out groups state.uses ≡ (without groups state).uses
 unfolding without
 without_uses [] state = sym (outs [] state.uses)

@@ -63,7 +63,7 @@ totals items bytes = ([], answered (answer.Totals items bytes))
 abbrev pub refuses : Refusal → List Group × Reply
 refuses why = ([], answered (answer.Refused why))
 
--- so many data bytes
+-- n data bytes
 abbrev pub fill : ℕ → List ℕ
 fill n = replicate n 0x7A
 

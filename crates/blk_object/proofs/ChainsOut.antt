@@ -230,7 +230,7 @@ module _ (layout : Layout) (chains : ℕ → List ℕ) (between : Image) (whole 
         (λ (h : (b == other) ≡ false). elsewhere-now other below h)
         (cases_Bool (b == other))
 
-    -- it is out
+    -- the record is out of its chain
     pub goes-out : IsUnlinking (record layout { chains = chains }) (chains_but chains w) between image
     goes-out = record {
       word = in_front before w;
@@ -243,7 +243,7 @@ module _ (layout : Layout) (chains : ℕ → List ℕ) (between : Image) (whole 
       headers = u.keeps.headers;
     }
 
-    -- and the files are left
+    -- the files are as before
     pub leaves-files : LeavesFiles between image
     leaves-files = leaves-by between image w before first-in u
 

@@ -174,7 +174,7 @@ module _ (state : State) (layout : Layout) (keep : Item → Bool) (chains : ℕ 
     chained : is_among (chained_for (store_of image) was.key) was.contents ≡ true
     chained = ap (λ (ws : List ℕ). is_among ws was.contents) (chain-same was.key) ∙ k.holds.chained (layout.place item) was (is_among-node layout state.uses item listed) here (apart item listed stays)
 
-    -- and no other record does
+    -- no other record in the chain has its key
     same-record : (entry : ℕ) (before : Option ℕ) → IsFound was.key (is_child_item item) entry before image → was.contents ≡ entry
     same-record entry before f =
         let among : is_among (chains (bucket_of_key was.key)) entry ≡ true = ap (λ (ws : List ℕ). is_among ws entry) (sym (chain-same was.key)) ∙ standing-among (chained_for (store_of image) was.key) entry before f.prefix f.suffix f.stands in

@@ -126,7 +126,7 @@ none-going words from = record { front = []; left = words; split = refl; between
 pub one-going : (place : Option ℕ) (w : ℕ) (from image : Image) → place ≡ Some w → IsPlaceGoing w from image → AreGoing (words_at (place ∷ [])) from image
 one-going place w from image is going = subst (λ (p : Option ℕ). AreGoing (words_at (p ∷ [])) from image) (sym is) (record { front = []; left = w ∷ []; split = refl; between = from; removed = refl; next = inr going })
 
--- it is freed
+-- the place of one word is freed
 pub one-freed : (place : Option ℕ) (w : ℕ) (from image : Image) → place ≡ Some w → RemovesPlace w from image → Removes (words_at (place ∷ [])) from image
 one-freed place w from image is removes = subst (λ (p : Option ℕ). Removes (words_at (p ∷ [])) from image) (sym is) (image, (removes, refl))
 

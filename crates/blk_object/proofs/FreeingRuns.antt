@@ -31,7 +31,7 @@ pub record HasFreed (a t : Told) (words done left : List ℕ) : Type 0 where
   pub silent : a.files ≡ None → t.files ≡ None
   pub back : t.files ≡ None → a.files ≡ None
 
--- none is
+-- none of the words is freed yet
 pub begun : (a : Told) (words : List ℕ) → HasFreed a a words [] words
 begun a words = record {
   all = refl;
@@ -98,7 +98,7 @@ module _ (a t n : Told) (words done next left : List ℕ) (has : HasFreed a t wo
 
 -- ---- places, of which some may be none
 
--- so many of them are freed
+-- the first `count` places are freed
 abbrev pub HasFreedPlaces : Told → Told → List (Option ℕ) → ℕ → Type 0
 HasFreedPlaces a t places count = HasFreed a t (words_at places) (words_at (take count places)) (words_at (drop count places))
 
@@ -118,7 +118,7 @@ module _ (places : List (Option ℕ)) (count : ℕ) (place : Option ℕ) (inside
   pub place-done : (a n : Told) → HasFreed a n (words_at places) (words_at (take count places) ++ words_at (place ∷ [])) (words_at (drop (count + 1) places)) → HasFreedPlaces a n places (count + 1)
   place-done a n has = subst (λ (ws : List ℕ). HasFreed a n (words_at places) ws (words_at (drop (count + 1) places))) (sym done-is) has
 
--- all of them are
+-- all places are freed
 pub places-freed : (a t : Told) (places : List (Option ℕ)) (count : ℕ) → length places ≤ count → HasFreedPlaces a t places count → ForSome a.files (λ from. AreFreeable (words_at places) from → ForSome t.files (Removes (words_at places) from))
 places-freed a t places count past has from there may now is =
     let none : words_at (drop count places) ≡ [] = ap words_at (drop_all count places past) in

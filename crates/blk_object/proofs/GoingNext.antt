@@ -66,7 +66,7 @@ module _ (state : State) (layout : Layout) (keep : Item → Bool) (chains : ℕ 
     pub out-there : KeepsPartlyOut state layout (keeps_but keep item) (chains_but chains p.was.contents) (words_of p.was ++ unlinked) mid
     out-there = left-out state layout keep chains unlinked item p.was before from mid k p.lies (subst (λ (n : ℕ). IsTakenOut n p.was.contents before from mid) (sym p.node_is) (subst (λ (e : ℕ). IsTakenOut node e before from mid) (sym p.entry_is) t))
 
-    -- it loads yet
+    -- what was taken out loads still
     pub there-loads : (load (store_of mid) (unchained_rule entry_normal) its ≡ Ok p.was) × AreSealed mid p.was
     there-loads = left-loads state layout keep chains unlinked item p.was before from mid k p.lies (subst (λ (n : ℕ). IsTakenOut n p.was.contents before from mid) (sym p.node_is) (subst (λ (e : ℕ). IsTakenOut node e before from mid) (sym p.entry_is) t))
 

@@ -32,7 +32,7 @@ all-some f (x ∷ xs) each =
     go rest None some = absurd (let z : ◌≡◌ {A = Option Row} None (Some some.0) = some.1 in cc)
     go rest (Some row) some = ap suc rest
 
--- it has a row for each item
+-- a state has a row for each item
 pub rows-long : (state : State) (layout : Layout) (unlinked : List ℕ) (image : Image) → KeepsUncounted state layout unlinked image → length (rows state) ≡ length state.uses
 unfolding rows
 rows-long state layout unlinked image k = all-some (row_of state) state.uses (λ item among. let p = k.represents.holds.lies.laid item among in (_, p.row))

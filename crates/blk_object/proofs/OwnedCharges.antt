@@ -56,7 +56,7 @@ key-length image w e key is = by (nat_le e.key_len 927) (e.long_key == 0) is whe
   by true false h = absurd (none-some h)
   by false z h = long (stored_at image (e.key_len + 1) e.long_key) refl h
 
--- and so has a stream
+-- a stored stream has the length that its record says
 stream-length : (image : Image) (e : RecordFields) (i : ℕ) (bytes : List ℕ) → stored_stream (store_of image) e i ≡ Some bytes → length bytes ≡ data_size_of e i
 unfolding stored_stream store_of
 stream-length image e i bytes is = go (nat_le (data_size_of e i) 2147483647) is where

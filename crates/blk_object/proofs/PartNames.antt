@@ -134,7 +134,7 @@ other-role key e name streams role is other = go (e.flags == parent) (e.flags ==
   go false false f h = subst (λ (r : Role). part_number key r ≡ None) (some_inj h) refl
   go false true f h = absurd (let z : true ≡ false = f in cc)
 
--- and of one that is
+-- the role of a record that is flagged as a part's
 pub its-role : (key : List ℕ) (e : RecordFields) (name : List ℕ) (streams : List (List ℕ)) (role : Role) → role_of e name streams ≡ Some role → (e.flags == child) ≡ true → part_number key role ≡ number_said key (read_name name)
 unfolding role_of
 its-role key e name streams role is its = go (e.flags == parent) (e.flags == child) (ap (λ (w : ℕ). w == parent) (eqb-true e.flags child its)) its is where

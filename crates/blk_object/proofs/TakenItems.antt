@@ -58,7 +58,7 @@ use Rattle.blk_object.proofs.ChainsOut.{among-front, can-go, goes-out, leaves-fi
 
 -- ---- a removal from the list
 
--- it leaves the files
+-- a removal from the list leaves the files
 pub removal-leaves : (from between : Image) (node : ℕ) → IsRemovalDone from node between → LeavesFiles from between
 removal-leaves from between node done =
     let writes : List ListWrite = writes_of remove node (list_of from) in
@@ -66,7 +66,7 @@ removal-leaves from between node done =
     leaves-files (touch_range writes node) from between (touch_spares writes node) (touch_sizes writes node) outside
     (record { crash = counter-same writes node from between outside 32 (omega arith); id = counter-same writes node from between outside 20 (omega arith) }) done.partly.headers
 
--- and the counters
+-- a removal from the list leaves the counters
 removal-counters : (from between : Image) (node : ℕ) → IsRemovalDone from node between → SameCounters from between
 removal-counters from between node done =
     let writes : List ListWrite = writes_of remove node (list_of from) in
@@ -79,7 +79,7 @@ table-word b p from image low same = same_word_outside (one_word Index (place_of
   beside : (i : ℕ) → i < header_length → (nat_le (place_of_bucket b) i && nat_lt i (place_of_bucket b + 4)) ≡ false
   beside i small = grind (arith, nat_tests)
 
--- and an unlinking
+-- an unlinking leaves the counters
 unlinking-counters : (between image : Image) (entry : ℕ) (before : Option ℕ) → IsUnlinked between entry before image → SameCounters between image
 unlinking-counters between image entry None u =
     let b = bucket_at between entry in

@@ -45,7 +45,7 @@ yet-or-out between entry (Some v) m b there c = commits_passes 2 m b (IsStillLin
 abbrev pub RemovesInList : BlockFiles → ℕ → Told → Told → Type 0
 RemovesInList files node a m = ForSome a.files (λ from. (prefix suffix : List ℕ) → HasListAtRest (prefix ++ node ∷ suffix) from → Passes a m (IsMidOperation files (writes_of remove node (list_of from)) (prefix ++ node ∷ suffix) (prefix ++ suffix) from))
 
--- and of its steps
+-- what the removal promises of its steps
 abbrev pub HasRemoved : ℕ → Told → Told → Type 0
 HasRemoved node a m = ForSome a.files (λ from. Applies a m (operation_steps remove node from))
 

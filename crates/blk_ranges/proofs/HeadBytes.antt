@@ -23,7 +23,7 @@ pub length-words : (ws : List ℕ) → length (bytes_of_words ws) ≡ 4 * length
 length-words [] = refl
 length-words (w ∷ ws) = let rest = length-words ws in omega (arith, rest)
 
--- they are bytes
+-- words are written as bytes below 256
 pub small-bytes : (ws : List ℕ) (i : ℕ) → content (bytes_of_words ws) i < 256
 small-bytes [] i = omega arith
 small-bytes (w ∷ ws) zero = omega arith

@@ -141,7 +141,7 @@ others-stay (w ∷ words) image other places aligned apart =
     ∙ others-stay words (after first image) other (All-tail P w words places) aligned (All-tail O w words apart)
     ∙ choice-other image w.0 w.1 other (All-head P w words places).0 aligned (All-head O w words apart) (word image Index w.0 == w.1)
 
--- all of them are there
+-- after the steps each word has its value
 pub words-there : (words : List (ℕ × ℕ)) (image : Image) → ArePlaces words → AreDifferent words → All (λ (w : ℕ × ℕ). w.1 < 2 ^ 32) words → HasWholeIndex image
     → All (λ (w : ℕ × ℕ). word (after (index_words_steps words image) image) Index w.0 ≡ w.1) words
 words-there [] image places different small whole = All-nil (λ (w : ℕ × ℕ). word image Index w.0 ≡ w.1)

@@ -25,7 +25,7 @@ heads-same e = cc
 tails-same : {x y : TrailStep} {s t : List TrailStep} → x ∷ s ≡ y ∷ t → s ≡ t
 tails-same e = cc
 
--- nothing is left the last
+-- nothing is left after a last step
 none-left : (x y : TrailStep) (made left : List TrailStep) → x ∷ [] ≡ y ∷ (made ++ left) → y ∷ made ≡ x ∷ []
 none-left x y [] left e = ap (λ (z : TrailStep). z ∷ []) (sym (heads-same e))
 none-left x y (z ∷ made) left e = absurd (no_more (tails-same e))
@@ -55,7 +55,7 @@ spare-or-ended s made left spare e =
 
 -- ---- steps that break off
 
--- none was made
+-- no step was made
 pub breaks-none : {a b : Told} (P : Image → Type 0) → b ≡ a → ForSome a.files P → RepairBreaksOff a b P
 breaks-none P same holds = record { passes = record { steps = []; applies = grows_none same; unnoted = tt; along = holds }; unmarked = All-nil IsOther }
 
@@ -79,7 +79,7 @@ breaks-part {a} {b} {s} P part quiet spare along = breaks-prefix P part quiet (s
 pub breaks-step : {a b : Told} {x : TrailStep} (P : Image → Type 0) → IsOther x → Applies a b (x ∷ []) → HasNoNote (x ∷ []) → ForSome a.files (λ image. P image × P (applied x image)) → RepairBreaksOff a b P
 breaks-step {a} {b} {x} P other made quiet both = record { passes = record { steps = x ∷ []; applies = made; unnoted = quiet; along = both }; unmarked = All-cons IsOther x [] other (All-nil IsOther) }
 
--- some were, and then others
+-- some steps were made, and then others
 pub breaks-then : {a b c : Told} {P : Image → Type 0} → RepairBreaksOff a b P → RepairBreaksOff b c P → RepairBreaksOff a c P
 breaks-then {a} {b} {c} {P} first second =
     let s : List TrailStep = first.passes.steps in

@@ -17,7 +17,7 @@ pub record Progress (old now : Told) (whole rest : Image → List TrailStep) : T
   pub applies : ForSome old.files (λ from. Applies old now (done from))
   pub silent : old.files ≡ None → now.files ≡ None
 
--- none was made
+-- no step was made
 pub begun : (old now : Told) (whole : Image → List TrailStep) → now ≡ old → Progress old now whole whole
 begun old now whole same = record {
   done = λ _. [];
@@ -105,13 +105,13 @@ module _ {old now : Told} {whole rest : Image → List TrailStep} (progress : Pr
         subst (AppliesPrefix old next) (sym (progress.split from ∙ ap (λ (l : List TrailStep). done ++ l) (leads between)))
         (part_then (progress.applies from there) (part_only (later (after (step between) between)) (part between (now_files from there))))
 
--- all of it was made
+-- all steps were made
 pub ended : {old now : Told} {whole rest : Image → List TrailStep} → Progress old now whole rest → ((image : Image) → rest image ≡ []) → ForSome old.files (λ from. Applies old now (whole from))
 ended {old} {now} {whole} {rest} progress none from there =
     let done : List TrailStep = progress.done from in
     subst (Applies old now) (sym (progress.split from ∙ ap (λ (l : List TrailStep). done ++ l) (none (after done from)) ∙ append-nil done)) (progress.applies from there)
 
--- all of it is a part of it
+-- all steps are a prefix of them
 pub ended_part : {old now : Told} {whole : Image → List TrailStep} → ForSome old.files (λ from. Applies old now (whole from)) → ForSome old.files (λ from. AppliesPrefix old now (whole from))
 ended_part all from there = part_whole (all from there)
 

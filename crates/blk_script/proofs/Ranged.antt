@@ -5,7 +5,7 @@ use Rattle.std.proofs.lemmas.List.Elements.{All-nil, All-cons, All-head, All-tai
 use Rattle.blk_model.specs.Request.{Request, IsRequest, to_create, to_open, to_read, to_write, to_size, to_sparse_write, to_sparse_read, to_sparse_range, to_doom, to_doom_key, to_close, to_flush, to_list, to_trim, to_total}
 use Rattle.blk_model.specs.Items.{IsBytes}
 
--- each is a byte
+-- each number is a byte
 abbrev pub AreSmall : List ℕ → Type 0
 AreSmall bytes = AllByRecursion (λ byte. byte < 256) bytes
 

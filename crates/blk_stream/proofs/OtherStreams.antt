@@ -72,7 +72,7 @@ module _ (v n entry i old : ℕ) (filled image : Image) (apart_old : v ≢ 0 →
 -- Data that is stored.
 
 module _ (files kept : BlockFiles) (n v : ℕ) (from : Image) (agrees : Agrees files from) (stored : may_keep files n v ≡ true) (standing : KeepsStanding files kept) (there : v ≢ 0 → kind_of v ≡ external → has_file from (External (external_number v)) ≡ true) where
-  -- none where there is no place
+  -- a stream without a place has no bytes
   none_here : v ≡ 0 → n ≡ 0
   none_here none = by_size n refl
     where

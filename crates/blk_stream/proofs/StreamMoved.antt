@@ -260,7 +260,7 @@ module _ (files kept : BlockFiles) (entry i size : ℕ) (old : Stored) (kind : k
             left_stream files kept entry i size offset cut bytes from kind stands agrees can.checks w filled.made kinds filled.placed B filled.same written_here apart_words filled.long fits size_here other_here image leaves.named (others image up) (owned image up)
             differs some_here (keeps_inside files (size_word from entry i) (address_word from entry i) 0 0 (known i small).keep (omega arith)).stands (old_shares some_here) leaves
 
-      -- there was none
+      -- there was no old place
       module _ (none : old.addr ≡ None) where
         no_word : address_word from entry i ≡ 0
         no_word = words.word_is ∙ ap (λ (o : Option ℕ). unwrap_or o 0) none
@@ -334,7 +334,7 @@ module _ (files kept : BlockFiles) (entry i size : ℕ) (old : Stored) (kind : k
     pub leave_back : {A : Type 0} (r : Result A Fault) → (a.files ≡ None → m.files ≡ None) → ForSome a.files (CanBeWritten files entry i size) → IfDamaged r (λ _. m.files ≡ None) → IfDamaged r (λ _. a.files ≡ None)
     leave_back r silent can damaged = if_damaged_weaker r _ _ (λ damage none. told_back a m (λ from. WritesStream files entry i size offset true bytes from) (λ from there. fill_words true from there (can from there)) none) damaged
 
-  -- there was none
+  -- there was no old place
   module _ (none : old.addr ≡ None) where
     pub name_passes : ForSome m.files (λ B. record_bytes ≡ record_at B entry → RecordChecks entry B → Passes m b (NamesInProgress entry i B))
         → ForSome a.files (λ from. CanBeWritten files entry i size from → (cut : Bool) → size ≡ size_after cut old.size offset (length bytes) → Passes a b (WritesStream files entry i size offset cut bytes from))
@@ -398,7 +398,7 @@ module _ (files kept : BlockFiles) (entry i size : ℕ) (old : Stored) (kind : k
           let mid = mid_here from there can in
           moved from there can image (subst (λ (v : ℕ). HasLeftPlace entry i v size w mid.image image) (word_now from there) (left mid.image mid.is (read_here from there can mid.image mid.holds) (checks_here from there can mid.image mid.holds) (real addr addr_is) image now))
 
-    -- there was none
+    -- there was no old place
     module _ (none : old.addr ≡ None) where
       pub name_stages : ForSome m.files (λ B. record_bytes ≡ record_at B entry → RecordChecks entry B → Passes m b (NamesShown entry i B)) → ForSome a.files (λ from. CanBeWritten files entry i size from → Passes a b (WritesByStage files kept entry i size offset bytes from))
       name_stages stops from there can =

@@ -76,7 +76,7 @@ module _ (files kept : BlockFiles) (entry i size offset : ℕ) (cut : Bool) (byt
       (left_length w size entry i old filled image (λ _ _. apart) up long)
       (left_moved files old w from filled (gains_still files w from made filled (place_keeps_maps w made filled same) placed.gains) differs entry i size image old_stands apart leaves)
 
-  -- there was none
+  -- there was no old place
   pub named_stream : old ≢ w → old ≡ 0 → NamesInProgress entry i filled image → StreamIsWritten files kept entry i offset cut bytes from image
   named_stream differs none named =
       written_by

@@ -65,7 +65,7 @@ pub its-file : (w : ℕ) → (kind_of w == external) ≡ false → is_in_file (f
 unfolding is_in_file
 its-file w apart = rw apart (eq-eqb (file_selector w) (file_selector w) refl)
 
--- and in no other
+-- a word of blocks is in no other file
 pub other-in : (w n : ℕ) → (kind_of w == external) ≡ false → n ≢ file_selector w → is_in_file n w ≡ false
 unfolding is_in_file
 other-in w n apart differs = rw apart (⊎_elim (λ (e : (file_selector w == n) ≡ true). absurd (differs (sym (eqb-true (file_selector w) n e)))) (λ (e : (file_selector w == n) ≡ false). e) (cases_Bool (file_selector w == n)))

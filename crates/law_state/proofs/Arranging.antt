@@ -38,7 +38,7 @@ as-sum p (x ∷ xs) =
 pub counted-alike : (p : ℕ → Bool) (xs ys : List ℕ) → IsPermutation xs ys → length (filter p xs) ≡ length (filter p ys)
 counted-alike p xs ys same = as-sum p xs ∙ sym (sum_by-IsPermutation (λ w. cond (p w) 1 0) xs ys same) ∙ sym (as-sum p ys)
 
--- and the same is used
+-- words use the same, in whatever order
 claimed-any : (c : Claim) (xs : List ℕ) → has_claim (claims_of_all xs) c ≡ list_any (λ w. has_claim (claims_of w) c) xs
 claimed-any c [] = no-claim c
 claimed-any c (x ∷ xs) = claim-append (claims_of x) (claims_of_all xs) c ∙ ap (λ (t : Bool). has_claim (claims_of x) c || t) (claimed-any c xs)

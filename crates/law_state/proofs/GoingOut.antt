@@ -158,7 +158,7 @@ module _ (state : State) (layout : Layout) (keep : Item → Bool) (chains : ℕ 
   pub out-sealed : (loaded : Loaded) → AreSealed between loaded → AreSealed out loaded
   out-sealed loaded = table-sealed between out bucket loaded (outside between well-between ready-between chains bucket was.contents alone whole-between)
 
-  -- it is out
+  -- the item is out
   pub goes-out : IsOneMoreOut layout chains item was from out
   goes-out = record { here = here; between = between; unlisted = out-of-list; unlinking = out-of-chain; leaves = out-leaves; sealed = λ node loaded at. out-sealed loaded }
 

@@ -25,7 +25,7 @@ map-same : (f : Option Object → Option Object) (slots : List (Option Object)) 
 map-same f [] each = refl
 map-same f (slot ∷ slots) each = ap₂ (λ (s : Option Object) (more : List (Option Object)). s ∷ more) (each 0) (map-same f slots (λ m. each (suc m)))
 
--- but one
+-- slots that a change leaves, but for one
 map-set : (f : Option Object → Option Object) (slots : List (Option Object)) (n : ℕ) (x : Option Object) → ((m : ℕ) → m ≢ n → f (get_or slots m None) ≡ get_or slots m None) → f (get_or slots n None) ≡ x → n < length slots → map f slots ≡ set slots n x
 map-set f [] n x others here within = absurd (omega (arith, within))
 map-set f (slot ∷ slots) zero x others here within = ap₂ (λ (s : Option Object) (more : List (Option Object)). s ∷ more) here (map-same f slots (λ m. others (suc m) (λ e. omega (arith, e))))

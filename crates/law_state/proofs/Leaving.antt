@@ -20,7 +20,7 @@ leaves-files F from image headers sizes same session formed = record {
   well_formed = formed;
 }
 
--- and one after another
+-- two changes, one after the other, leave them
 pub leaves-then : (from between image : Image) → LeavesFiles from between → LeavesFiles between image → LeavesFiles from image
 leaves-then from between image one two = record {
   headers = record {

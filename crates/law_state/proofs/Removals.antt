@@ -148,7 +148,7 @@ module _ (state : State) (layout : Layout) (unlinked : List ℕ) (objects : List
       (λ (e : (node == layout.place other) ≡ false). e)
       (cases_Bool (node == layout.place other))
 
-  -- and has another record
+  -- what stays has another record
   other-record : (n : ℕ) (l : Loaded) → layout.at n ≡ Some l → (node == n) ≡ false → (l.contents == was.contents) ≡ false
   other-record n l is apart = other-record-of state layout unlinked from k node n was l here is apart
 

@@ -46,7 +46,7 @@ words-append at xs ys = ap (flat_map words_of) (filter_map-append at xs ys) ∙ 
 pub to-front : (xs ys zs : List ℕ) → IsPermutation (xs ++ (ys ++ zs)) (ys ++ (xs ++ zs))
 to-front xs ys zs = subst (λ (vs : List ℕ). IsPermutation vs (ys ++ (xs ++ zs))) (append_assoc xs ys zs) (subst (IsPermutation ((xs ++ ys) ++ zs)) (append_assoc ys xs zs) (IsPermutation-append_left zs (xs ++ ys) (ys ++ xs) (IsPermutation-append_comm xs ys)))
 
--- so may what lies at a node
+-- what lies at a node may come in front
 pub node-to-front : (at : ℕ → Option Loaded) (prefix : List ℕ) (x : ℕ) (suffix : List ℕ) → IsPermutation (words_at at (prefix ++ x ∷ suffix)) (words_at at (x ∷ prefix ++ suffix))
 node-to-front at prefix x suffix =
     subst (λ (vs : List ℕ). IsPermutation vs (words_at at (x ∷ prefix ++ suffix))) (sym old)

@@ -185,7 +185,7 @@ listed_folder = after (operation_steps insert (nodes 3) entry_folder) entry_fold
 inserted : IsInsertDone entry_folder (nodes 3) listed_folder
 inserted = insert-done entry_folder (nodes 3) entry-writable can-be-inserted
 
--- it may crash then
+-- the Create may crash while its node is inserted
 insert_stops : MayStop closed 100 (to_create 5 twin) listed_folder
 insert_stops = inserts-stop closed 100 5 twin closed_layout (0xA0010005 ∷ []) fresh entry_folder listed_folder creating inserted.partly
 

@@ -204,7 +204,7 @@ part-goes = goes-out both worked_layout (λ item. true) chain_of [] both_folder 
 part_is_out : KeepsPartlyOut both worked_layout but_part (chains_but chain_of (records 1)) (words_of the_part ++ []) without_part
 part_is_out = one-more-goes both worked_layout (λ item. true) chain_of [] (part (codes "a") 0) the_part both_folder without_part all-there refl refl part-goes
 
--- then its main item
+-- then the main item of `a` is out
 abbrev without_a : Image
 without_a = unchained (unlisted without_part (nodes 0)) 0xA782
 

@@ -54,11 +54,11 @@ making_finds = making-finds worked_folder made_folder (external_number first_fil
 made : AddsExternal worked_folder first_file made_folder
 made = made-added worked_folder made_folder first_file worked-keeps.entries.sound is-external.0 making its-file.0 its-file.1
 
--- it is unlinked
+-- the new file is unlinked
 pub file_is_unlinked : KeepsUncounted worked worked_layout (first_file ∷ []) made_folder
 file_is_unlinked = made-unlinked first_file worked_folder made_folder made worked worked_layout [] worked-keeps.entries
 
--- and deleted
+-- the new file is deleted
 abbrev deleted_folder : Image
 deleted_folder = applied (Delete (External 1)) made_folder
 

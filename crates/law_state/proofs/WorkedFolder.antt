@@ -185,7 +185,7 @@ three-shown : Shown (nodes 1) (records 1) 0 part_fields the_part.key × Shown (n
 unfolding short_folder zeros with_word spliced next_file_in max_entries_in linked files_along kind_among node_fields_at fields_at key_place_at range_at stands stands_as_blocks is_address is_initialized names_external names_blocks kind_of reserved_bits block_count file_selector first_block external_number block_size block_place place byte_size node_in entry_checks entry_is_sealed entry_in entry_body words_at hash mixed of_bytes of_four
 three-shown = (record { named = refl; here = refl; key_bytes = refl }, record { named = refl; here = refl; key_bytes = refl }, record { named = refl; here = refl; key_bytes = refl })
 
--- and their streams
+-- the streams of the four records
 four-stored : (stored_at short_folder 2 0xA0010006 ≡ Some (codes "xx")) × (stored_at short_folder 192 0xA0010007 ≡ Some part_bytes) × (stored_at short_folder 2 0xA0010004 ≡ Some (codes "zz")) × (stored_at short_folder 3 0xA0010005 ≡ Some (codes "yyy"))
 unfolding short_folder zeros with_word spliced next_file_in max_entries_in linked files_along kind_among stored_at range_at stands stands_as_blocks is_address is_initialized names_external names_blocks kind_of reserved_bits block_count file_selector first_block external_number block_size block_place place byte_size kind_for blocks_for is_storage
 four-stored = (refl, refl, refl, refl)

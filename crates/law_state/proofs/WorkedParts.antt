@@ -365,6 +365,6 @@ part_is_made = record {
 part_is_kept : KeepsUncounted (with_first bare objects (part (codes "a") 0)) (with_new_part bare_layout (codes "a") 0 dirty_parent the_part) [] linked_folder
 part_is_kept = parts-kept bare objects bare_layout [] (codes "a") 0 dirty_parent dirty_parent the_part bare_folder linked_folder bare-keeps written (values-keep bare 1 bare_object 0 part_value refl) part_is_made
 
--- and is one item more
+-- the state with the part has one item more
 part_is_more : IsPartMore bare (with_first bare objects (part (codes "a") 0)) bare_layout (with_new_part bare_layout (codes "a") 0 dirty_parent the_part) dirty_parent dirty_parent the_part
 part_is_more = part-more (view_of bare_folder) bare objects bare_layout (codes "a") 0 dirty_parent dirty_parent the_part written

@@ -256,7 +256,7 @@ main_leaves_others = (own-items-leave (codes "a")).0
 stops_between : MayStop worked 100 (to_doom_key (codes "a")) without_main
 stops_between = partly-out-dooms-stop worked 100 (to_doom_key (codes "a")) worked_layout 1 sparse_object but_main (chains_but chain_of (records 0)) (words_of the_parent ++ []) without_main (codes_are_bytes (codes "a") (omega arith, tt)) (unfold computing in refl) (unfold computing in refl) refl main_leaves_others main_is_out
 
--- and then its part
+-- then the part of `a` is out
 abbrev pub without_a : Image
 without_a = unchained (unlisted without_main (nodes 1)) 0xB6C
 

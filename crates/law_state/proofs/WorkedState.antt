@@ -121,7 +121,7 @@ settled-valid = subst IsValidState reached-settled (with-settled _ (with-a _ wit
 abbrev pub nodes : ℕ → ℕ
 nodes n = 0x90000000 + n
 
--- and their records
+-- the records of these nodes
 abbrev pub records : ℕ → ℕ
 records n = 0xA0010000 + n
 

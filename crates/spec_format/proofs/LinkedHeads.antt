@@ -82,7 +82,7 @@ pub count_whole : (k : ℕ) → is_block_count k ≡ true → (k % 4 ≡ 0) × (
 unfolding is_block_count
 count_whole k is = (grind (arith, nat_tests), grind (arith, nat_tests))
 
--- and so has each linked file
+-- each linked file has a head with whole groups
 pub linked_head : (image : Image) (m : ℕ) → first_block_damage image ≡ None → is_some (linked_as image m) ≡ true → HasHead image m
 unfolding kind_among
 linked_head image m undamaged is = go (is_among (linked image 1) m) (is_among (linked image 2) m) (is_among (linked image 3) m) (is_among (linked image 4) m) refl refl refl refl is

@@ -68,7 +68,7 @@ digit-back d h = ⊎_elim
     rw (a, b) (omega arith))
     (cases_lt d 10)
 
--- and is no `:`
+-- the byte of a digit is no `:`
 digit-no_colon : (d : ℕ) → d < 16 → (digit_glyph false d == colon) ≡ false
 digit-no_colon d h = ⊎_elim
     (λ (small : d < 10). let a : digit_glyph false d ≡ 48 + d = rw (lt-ltb d 10 small) refl in grind (arith, nat_tests))

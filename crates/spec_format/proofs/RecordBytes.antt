@@ -50,7 +50,7 @@ unfolding with_word
 record-step image file i n p v fits =
     ap (λ (l : List ℕ). range_at (content l) i n) (bytes_of-written image file (i + p) (word_bytes v)) ∙ range-written i n p (word_bytes v) (bytes_of image file) fits
 
--- and after several
+-- a record after several words of it were written
 pub record-after : (file : File) (i n : ℕ) (ws : List (ℕ × ℕ)) (image : Image) → i + n ≤ length_of image file → range_at (byte (after (word_steps file (placed i ws)) image) file) i n ≡ with_words ws (range_at (byte image file) i n)
 unfolding word_step
 record-after file i n [] image fits = refl

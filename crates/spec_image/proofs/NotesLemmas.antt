@@ -69,7 +69,7 @@ steps-of P made image (x ∷ s) all = (
     more : (prefix suffix : List TrailStep) → s ≡ prefix ++ suffix → x ∷ s ≡ x ∷ prefix ++ suffix
     more prefix suffix split = cc split
 
--- and the other way round
+-- what holds after each of the first steps holds along them
 pub each_step : (P : List TrailStep → Image → Type 0) (image : Image) (steps : List TrailStep) → AtEachPrefix P image steps → AlongFrom P [] image steps
 each_step P image steps all = steps-of P [] image steps all
 

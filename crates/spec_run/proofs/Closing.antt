@@ -102,7 +102,7 @@ pub name_freed : ClosesFreeTheirName
 unfolding step refusals
 name_freed state moment name valid bound = after_close state moment name (names_none state name) (bound_is_named state name valid bound)
 
--- it isn't refused
+-- a Close of a handle that is bound isn't refused
 not_refused : (state : State) (moment name : ℕ) (b : Bool) → b ≡ false
     → is_refused (outcome moment (to_close name) state (if b then Some refusal.BadHandle else None)) ≡ false
 unfolding outcome reply

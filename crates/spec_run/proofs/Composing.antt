@@ -330,7 +330,7 @@ finished_part from opened done old mid new c there before made = record {
   along = λ image is. finished-along (state_after opened done) c.moment c.request image made.steps made.quiet (magic-of image (before.stands image is).well_formed) (made.along image is);
 }
 
--- it isn't noted
+-- a command that was done in part isn't noted
 pub stopped_part : (from : Image) (opened : State) (done more : List Stamped) (old mid new : Told) (c : Stamped) → old.files ≡ Some from → Progress from opened done old mid
     → BreaksOffIn mid new c (state_after opened done) → StopsAfter from opened (done ++ c ∷ more) (length done) old new
 unfolding stops_with finished_part
@@ -344,7 +344,7 @@ stopped_part from opened done more old mid new c there before makes =
       count = quiet_counts before.steps made.steps (length done) before.noted (no-note made.steps made.quiet);
     }
 
--- and one that was noted is
+-- a command that was noted is counted
 pub stopped_noted : (from : Image) (opened : State) (done more : List Stamped) (old mid new : Told) (c : Stamped) → old.files ≡ Some from → Progress from opened done old mid
     → NotesCommand mid new c (length done + 1) (state_after opened done) → StopsAfter from opened (done ++ c ∷ more) (length done + 1) old new
 unfolding stays

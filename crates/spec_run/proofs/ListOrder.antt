@@ -35,7 +35,7 @@ module _ {X : Type 0} where
       stays true x rest y has = later_contained x rest y has
       stays false x rest y has = has
 
-  -- and what stayed passes it
+  -- what stayed passes the test
   pub filter_back : (p : X → Bool) (xs : List X) (y : X) → Contains (filter p xs) y → Contains xs y × (p y ≡ true)
   filter_back p [] y there = none_contained y there
   filter_back p (x ∷ xs) y there =
@@ -78,7 +78,7 @@ module _ {X Y : Type 0} (h : X → Option Y) where
             (contained_cases w (filter_map h xs) y has)
       ] refl there
 
-  -- and an element gives it
+  -- what an element gives is given
   pub given_among : (xs : List X) (x : X) (y : Y) → h x ≡ Some y → Contains xs x → Contains (filter_map h xs) y
   given_among xs x y is there = given_contained h xs x y is there.0 there.1 there.2
 

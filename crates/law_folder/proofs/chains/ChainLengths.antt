@@ -20,7 +20,7 @@ nodes-first : (image : Image) → linked_as image 0 ≡ Some rankings
 unfolding kind_among linked
 nodes-first image = rw (first_along (next_file_in image) 59 0) refl
 
--- so no record is in it
+-- so no record is in the file 0
 elsewhere : (image : Image) (w : ℕ) → stands_as image blocks_256 w ≡ true → (file_and_block w == 0) ≡ false
 unfolding file_selector
 elsewhere image w stands = ⊎_elim

@@ -157,7 +157,7 @@ last-there image w =
     let last : first_block w + block_count w - 1 + 1 ≡ first_block w + block_count w = omega arith in
     rw (last, ends-at w) refl
 
--- then all are
+-- where blocks are valid all of them are there
 pub all-there : (image : Image) (w b : ℕ) → stands_in_blocks image w ≡ true → b < first_block w + block_count w → is_there image (file_selector w) (kind_of w) b ≡ true
 unfolding stands_as_blocks is_there
 all-there image w b st below =

@@ -20,7 +20,7 @@ in-range file other at n i e =
     let q = and_parts (nat_le at i) (nat_lt i (at + n)) p.1 in
     (same_file-true file other p.0, leb-true at i q.0, ltb-true i (at + n) q.1)
 
--- no byte outside it
+-- no byte outside a range of a file is in it
 pub out-range : (file other : File) (at n i : ℕ) → (file ≡ other → at ≤ i → i < at + n → ⊥) → (range file at n).bytes other i ≡ false
 out-range file other at n i never = false_from_ne_true ((range file at n).bytes other i) (λ e. let p = in-range file other at n i e in never p.0 p.1 p.2)
 

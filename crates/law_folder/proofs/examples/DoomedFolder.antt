@@ -227,7 +227,7 @@ folder-counted (suc (suc zero)) small = record { num_entries = refl; empty = fol
 folder-counted (suc (suc (suc zero))) small = record { num_entries = refl; empty = folder-empty 3 small; updating = refl }
 folder-counted (suc (suc (suc (suc n)))) small = absurd (omega arith)
 
--- those of the index have not
+-- the counts of the index don't have them
 folder-counts : count_of (byte doomed_folder Index) ≡ counting 0 0
 unfolding count_of doomed_folder zeros with_word spliced
 folder-counts = refl

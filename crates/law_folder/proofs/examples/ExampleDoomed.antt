@@ -216,11 +216,11 @@ written-change = record {
   single = now-once;
 }
 
--- it is laid out
+-- the written object is in the layout
 pub written-is_laid : IsLayoutOf (with_slot 0 (Some written_object) (doomed_state false)) (changed_at (doomed_layout 5) one.node now owners_now)
 written-is_laid = changed-doomed-lies (doomed_state false) (doomed_layout 5) (doomed-is_represented 5).holds.lies 0 (doomed_object false) written_object (one.loaded 5) now owners_now (here-doomed 5) written-change
 
--- and represented
+-- the state with the written object is represented
 pub written-is_represented : Represents (written_view (Some (codes "yyy"))) (with_slot 0 (Some written_object) (doomed_state false)) (changed_at (doomed_layout 5) one.node now owners_now)
 written-is_represented =
     changed-doomed touched (doomed_view 5 None) (written_view (Some (codes "yyy"))) (doomed_state false) (doomed_layout 5) (doomed-is_represented 5) 0 (doomed_object false) written_object (one.loaded 5) now owners_now (here-doomed 5)

@@ -65,7 +65,7 @@ part_node = 0x90000001
 abbrev pub the_parent : Loaded
 the_parent = record { node = parent_node; contents = 0xA0010000; dirty = 0; key = codes "a"; role = IsParent parent_index; streams = [] ∷ [] ∷ parent_bytes ∷ []; others = 0 ∷ 0 ∷ 0 ∷ 0xC2030000 ∷ 0 ∷ [] }
 
--- and the part as this
+-- the part is loaded as this
 abbrev pub the_part : Loaded
 the_part = record { node = part_node; contents = 0xA0010001; dirty = 0; key = codes "Range_a:5:0"; role = IsPart part_name part_index; streams = [] ∷ [] ∷ part_bytes ∷ []; others = 0 ∷ 0 ∷ 0 ∷ 0xA0010008 ∷ 0 ∷ [] }
 
@@ -78,7 +78,7 @@ pub parent-loads : load family_stock (unchained_rule 0) parent_node ≡ Ok the_p
 unfolding load load_record load_key is_key_length stored_key stored_stream stored_streams role_of parent_role read_parent_index words_at block_count entry_blocks hash mixed of_bytes of_one
 parent-loads = refl
 
--- and the part's
+-- the part's node loads
 part-loads : load family_stock (unchained_rule 0) part_node ≡ Ok the_part
 unfolding load load_record load_key is_key_length stored_key stored_stream stored_streams role_of part_role is_covered read_part_index read_name split_last child_name digits words_at block_count entry_blocks hash mixed of_bytes of_four of_three
 part-loads = refl
@@ -179,7 +179,7 @@ part-laid = record {
   parent = record { name = part_name; index = part_index; role = refl; of_key = refl; listed = refl; parent = the_parent; at_parent = refl; of = refl };
 }
 
--- and the parent
+-- the parent lies at its node
 pub parent-laid : IsPlacedAt family_state family_layout (main (codes "a"))
 parent-laid = record { loaded = the_parent; here = refl; row = parent-row; mark = refl; parent = tt }
 

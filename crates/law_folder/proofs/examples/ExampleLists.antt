@@ -9,7 +9,7 @@ use Rattle.law_folder.proofs.lists.ListCompletions.{completing}
 use Rattle.law_folder.proofs.lists.AtRest.{inserts-turn, inserts-end, removals-turn, removals-end, touches-turn, touches-end, completions-end}
 use Rattle.law_folder.proofs.examples.Premises.{three, three_at_rest, fourth}
 
--- they are walked
+-- the three nodes are walked
 pub three-are_walked : walk three ≡ 3 ∷ 2 ∷ 1 ∷ []
 three-are_walked = walk_list three (3 ∷ 2 ∷ 1 ∷ []) three_at_rest.whole
 

@@ -6,7 +6,7 @@ use Rattle.spec_folder.specs.ListView.{ListView, Segment, Joined, Distinct, last
 use Rattle.spec_format.specs.BlockFiles.{is_among}
 use Rattle.spec_folder.specs.Walk.{walk, walk_from}
 
--- none of these is in met
+-- none of the nodes is in `met`
 abbrev pub Fresh : List ℕ → List ℕ → Type 0
 Fresh met [] = Unit {0}
 Fresh met (x ∷ xs) = (is_among met x ≡ false) × Fresh met xs

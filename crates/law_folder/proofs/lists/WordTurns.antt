@@ -56,7 +56,7 @@ turns_whole from ready code node rest before later can turn =
     ap done (part.shown.list ∙ ap (after_writes (take part.made rest)) l2) ∙ turn (suc (suc part.made)) ∙ ap (λ (t : Bool). if t then before else later) (le-ltb (suc (suc part.made)) 2 (omega arith)) in
     (turn 0, (ap done l1 ∙ turn 1, until_weaker2 (IsPartly i2 rest) Q (IsPartly i2 rest) Q (steps_of_writes rest i2) i2 each each shows.along))
 
--- and ends with its list idle
+-- an operation ends with its list idle
 rests_after : (from : Image) → IsWritable from → (writes : List ListWrite) (nodes : List ℕ) → CanBeMade from writes → IsAtRest (after_writes writes (list_of from)) nodes → HasListAtRest nodes (after (steps_of_writes writes from) from)
 rests_after from ready writes nodes can rest = subst (λ (l : ListView). IsAtRest l nodes) (sym (writes_show writes from ready can).ends.list) rest
 
@@ -178,7 +178,7 @@ module _ (from : Image) (ready : IsWritable from) (node moment : ℕ) (good : (l
       ap list_of (after-append (steps_of_writes ws from) (sealed_steps (after (steps_of_writes ws from) from) node (times_of moment)) from)
       ∙ (until_last R R (sealed_steps (after (steps_of_writes ws from) from) node (times_of moment)) (after (steps_of_writes ws from) from) times_show).0
 
-  -- and the node has its times
+  -- in the end the node has its times
   pub touch_updated : IsUpdated between node (times_of moment) (after (touch_steps node moment ws from) from)
   touch_updated =
       let i : Image = after (steps_of_writes ws from) from in

@@ -78,7 +78,7 @@ writes-go_on image (write ∷ writes) is =
     until-append IsWritable IsWritable (write_steps write image) (steps_of_writes writes (after (write_steps write image) image)) image (writable-write write image is)
     (writes-go_on (after (write_steps write image) image) writes (writable-after write image is))
 
--- none of them is made
+-- none of the writes is made
 pub nothing_made : (writes : List ListWrite) (image : Image) → IsPartly image writes image
 nothing_made writes image = record { made = 0; within = omega arith; shown = subst (λ (ws : List ListWrite). OnlyListChanges ws image image) (sym (take_none writes)) (changes-begin image); outside = outside-refl (touched_by_writes writes) image; headers = headers-kept image }
   where

@@ -90,7 +90,7 @@ module _ (v u : View) (m : State) (y : Layout) (r : Represents v m y) (w0 : ℕ)
       (λ (e : has_claim (claims_of w0) c ≡ false). e)
       (cases_Bool (has_claim (claims_of w0) c))
 
-  -- and none of its record
+  -- the record uses none of the node's blocks
   record-clear : (c : Claim) → has_claim (record_claims l) c ≡ true → has_claim (claims_of w0) c ≡ false
   unfolding all_claims
   record-clear c h = ⊎_elim

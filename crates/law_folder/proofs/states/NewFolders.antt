@@ -156,7 +156,7 @@ new-bare moment image new = subst HasNoEntries (sym (is-new moment image new)) (
 pub new-formed : NewFoldersAreWellFormed
 new-formed moment image new = subst IsWellFormed (sym (is-new moment image new)) (well-formed moment)
 
--- and the new folder is new
+-- the new folder is one that was just made
 pub new-is_new : (moment : ℕ) → IsMade moment (new_folder moment)
 unfolding new_folder
 new-is_new moment = record { index = refl; blocks = λ n small. rw (lt-ltb n 4 small) refl; others = others } where

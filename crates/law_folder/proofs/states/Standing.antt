@@ -184,7 +184,7 @@ module _ (image : Image) (m : State) (y : Layout) (r : Represents (view_of image
             let same : q.node ≡ y.place_of_doomed number = cc in
             absurd (let z : true ≡ false = sym q.listed ∙ ap (is_among (order m y)) same ∙ d.unlisted in cc)
 
-  -- all of them
+  -- all doomed objects
   doomed-each : (ns : List ℕ) → AllByRecursion (λ n. IsSomeAnd (object_at m n) (λ o. o.live ≡ false)) ns → ((n : ℕ) → is_among ns n ≡ true → is_among numbers n ≡ true)
       → AllByRecursion (λ d. IsSomeAnd (object_at m d.0) (λ o. KeepsDoomed (view_of image) o d.1)) (doomed_of y ns) × (map (λ (d : ℕ × Loaded). d.0) (doomed_of y ns) ≡ ns)
   doomed-each [] each sub = (tt, refl)

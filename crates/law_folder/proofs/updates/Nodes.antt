@@ -182,7 +182,7 @@ module _ (from image : Image) (w : ℕ) (node : IsNode from w) (changes : List (
       let was = shown-node from w as-node in
       list-for (next_at from) (prev_at from) (here ∙ sym was.1) (here2 ∙ sym was.2) (λ u e. refl) (λ u e. refl)
 
-  -- all but what the nodes say
+  -- all but the fields of nodes shows the same
   rest : ShowsTheSame (record (store_of from) { node_fields = (store_of image).node_fields }) (store_of image)
   rest = record {
     store = record {

@@ -15,7 +15,7 @@ returns-clause-dooms c =
 pub returns-clause-shared : goal.returns-clause-shared
 returns-clause-shared c = are-shared _ _ (sound-marked _ _ c.self.invariant _ c.set.ensures.distinct _ _ _ c.at-object.ensures c.set.ensures.updates refl c.set.ensures.len)
 
--- it isn't
+-- the object isn't open
 pub returns-in_default-clause-open : goal.returns-in_default-clause-open
 returns-in_default-clause-open c = rw (← c.self.view_is) (sym (closed-open c.self.inside.objects _ c.in_default.ensures.absent c.self.inside.names.items))
 
