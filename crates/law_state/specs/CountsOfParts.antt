@@ -29,7 +29,7 @@ pub record IsLessBy (gone : Item → Bool) (state : State) (layout : Layout) (af
   pub items : length after.uses + length (filter gone state.uses) ≡ length state.uses
   pub bytes : charges_at now (order after now) + charges_at layout (nodes_of layout (filter gone state.uses)) ≡ charges_at layout (order state layout)
 
--- the state without some items has so many items less, and the sum of its costs is less by the costs of these items
+-- the state without some items has fewer items by their number, and the sum of its costs is less by the costs of these items
 abbrev pub GoneItemsAreLess : Type 0
 GoneItemsAreLess = (state : State) (layout : Layout) (numbers : List ℕ) (objects : List (Option Object)) (keep : Item → Bool) (chains : ℕ → List ℕ) → IsLayoutOf state layout → AreOwners state layout numbers
     → IsLessBy (λ item. not (keep item)) state layout (without_items state objects keep) (layout_less layout (gone_nodes state layout keep) chains)
