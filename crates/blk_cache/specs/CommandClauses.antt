@@ -2,12 +2,11 @@
 use Rattle.std.specs.Prelude.{◌≡◌, ◌⊎◌, ℕ, ◌+◌, ◌-◌, ◌^◌, Bool, List, [], ◌∷◌, IfOk, OnErr, Result, if◌then◌else◌, is_some, min, true}
 use Rattle.std.specs.Option.{ForSome}
 use Rattle.std.specs.declared.option.Option.{Option}
-use Rattle.std.specs.declared.option.Option.TheVariants.{None}
 use Rattle.spec_image.specs.Image.{Image}
 use Rattle.spec_image.specs.Told.{Stays, Told}
 use Rattle.blk_io.specs.declared.fault.Damage.{Damage}
 use Rattle.blk_io.specs.declared.fault.Fault.{Fault}
-use Rattle.blk_io.specs.Faults.{IfDamaged}
+use Rattle.blk_io.specs.Faults.{UndamagedWhere}
 use Rattle.blk_model.specs.Request.{Request, to_flush, to_sparse_range, to_sparse_read, to_sparse_write}
 use Rattle.blk_model.specs.State.{Object, State}
 use Rattle.blk_model.specs.declared.Answer.{Answer}
@@ -44,14 +43,6 @@ abbrev pub ForLayout : Cache → Told → (State → Layout → Type 0) → Type
 ForLayout cache told P = ForSome told.files (λ image. (state : State) → (k : HoldsState cache state image) → P state k.layout)
 
 -- Failed checks.
-
--- where the answer is a failed check, the folder is opaque
-abbrev pub OpaqueIfDamaged : {A : Type 0} → Result A Fault → Told → Type 0
-OpaqueIfDamaged result told = IfDamaged result (λ _. told.files ≡ None)
-
--- where P holds of an observable folder, the answer is no failed check
-abbrev pub UndamagedWhere : {A : Type 0} → Result A Fault → Told → (Image → Type 0) → Type 0
-UndamagedWhere result told P = ForSome told.files P → OpaqueIfDamaged result told
 
 -- What a call does for a command: each of these takes what the call left, and is a clause on what it found.
 

@@ -19,7 +19,7 @@ use Rattle.blk_cache.specs.declared.dooming_objects.Target.{Target}
 use Rattle.blk_cache.specs.DoomingObjects.{LiesAsTarget, LiesOpen}
 use Rattle.blk_cache.specs.declared.cache.Cache.{Cache}
 use Rattle.blk_cache.specs.CacheKeeping.{HoldsState}
-use Rattle.blk_cache.specs.CommandClauses.{OpaqueIfDamaged}
+use Rattle.blk_io.specs.Faults.{OpaqueIfDamaged}
 
 -- Refusals.
 

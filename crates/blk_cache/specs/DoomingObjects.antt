@@ -21,7 +21,7 @@ use Rattle.blk_object.specs.RemovingObjects.{FindsEither}
 use Rattle.blk_object.specs.Writing.{node_of_object}
 use Rattle.blk_sparse.specs.declared.dropping.Gone.{Gone}
 use Rattle.blk_cache.specs.declared.dooming_objects.Target.{Target}
-use Rattle.blk_cache.specs.CommandClauses.{OpaqueIfDamaged}
+use Rattle.blk_io.specs.Faults.{OpaqueIfDamaged}
 use Rattle.blk_evict.specs.declared.item_names.EntryKind.{EntryKind}
 use Rattle.blk_evict.specs.declared.item_names.EntryKind.TheVariants.{Parent, Part, Plain}
 use Rattle.blk_evict.specs.EvictingGroups.{kind_of_role}
@@ -108,7 +108,3 @@ DoomingBy told now from = λ state layout number object. Passes told now (FindsE
 -- where the answer is a failed check, the folder is opaque
 abbrev pub UndamagedAt : {A : Type 0} → Result A Fault → Told → (from : Image) → State → Layout → ℕ → Object → Type 0
 UndamagedAt result told from = λ state layout number object. OpaqueIfDamaged result told
-
--- P, one of these, holds of each object that `each` names in an observable folder
-abbrev pub ForTold : {A : Type 1} → Told → (each : Image → A → Type 0) → (P : Image → A) → Type 0
-ForTold told each P = ForSome told.files (λ from. each from (P from))

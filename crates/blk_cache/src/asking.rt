@@ -1,11 +1,11 @@
 // The stream of an open object that a request names by a handle.
 ghost use Rattle.std.specs.Prelude.{◌≡◌, IfOk, IfSome, Ok};
 ghost use Rattle.spec_image.specs.Told.{ReadsOnly};
-ghost use Rattle.blk_io.specs.Faults.{IfDamaged, IfDevice};
+ghost use Rattle.blk_io.specs.Faults.{IfDamaged, IfDevice, UndamagedWhere};
 ghost use Rattle.blk_object.specs.FailedChecks.{IsFailedCheck};
 ghost use Rattle.blk_cache.specs.Asking.{IsAskDamage, IsAsked, StandsAmong, early_stream_refusal, keeps_stream};
 ghost use Rattle.blk_cache.specs.declared.asking.Asked.TheVariants as asked;
-ghost use Rattle.blk_cache.specs.CommandClauses.{ForLayout, KeepsAny, UndamagedWhere};
+ghost use Rattle.blk_cache.specs.CommandClauses.{ForLayout, KeepsAny};
 
 use crate::cache::Cache;
 use blk_addr::Addr;

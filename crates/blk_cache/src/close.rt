@@ -2,7 +2,7 @@
 ghost use Rattle.std.specs.Prelude.{◌≡◌, IfOk, IfSome, IsSome, IsTrue, None, Ok, OnOk, false, if◌then◌else◌, slice_set, true, ℕ};
 ghost use Rattle.std.specs.Option.{ForSome};
 ghost use Rattle.spec_image.specs.Told.{Stays, MayWrite};
-ghost use Rattle.blk_io.specs.Faults.{IfDamaged, IfDevice};
+ghost use Rattle.blk_io.specs.Faults.{IfDamaged, IfDevice, UndamagedWhere};
 ghost use Rattle.blk_model.specs.Request.{to_close};
 ghost use Rattle.spec_format.specs.Address.{blocks_256, is_address, kind_of};
 ghost use Rattle.blk_disk.specs.Open.{IsOpen};
@@ -13,7 +13,7 @@ ghost use Rattle.blk_handles.specs.Bindings.{AreShared, binding_of, is_open, ope
 ghost use Rattle.blk_object.specs.Ending.{Cleans, FreesAll, MayEndObject};
 ghost use Rattle.blk_object.specs.FailedChecks.{IsFailedCheck};
 ghost use Rattle.blk_cache.specs.Closing.{CountsClosed};
-ghost use Rattle.blk_cache.specs.CommandClauses.{DoneBy, ForCall, IsRefused, KeepsAny, OnlyNamesChange, SparedBy, StopsBy, UndamagedWhere};
+ghost use Rattle.blk_cache.specs.CommandClauses.{DoneBy, ForCall, IsRefused, KeepsAny, OnlyNamesChange, SparedBy, StopsBy};
 
 use crate::cache::Cache;
 use blk_evict::read_charge;

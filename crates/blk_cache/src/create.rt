@@ -2,7 +2,7 @@
 ghost use Rattle.std.specs.Prelude.{◌≡◌, ◌≤◌, ◌<◌, ℕ, Bool, IfOk, IfSome, List, None, Ok, OnOk, Option, Some, false, length, true};
 ghost use Rattle.std.specs.Option.{ForSome};
 ghost use Rattle.spec_image.specs.Told.{Stays, Told, MayWrite, ReadsOnly};
-ghost use Rattle.blk_io.specs.Faults.{IfDamaged, IfDevice};
+ghost use Rattle.blk_io.specs.Faults.{IfDamaged, IfDevice, UndamagedWhere};
 ghost use Rattle.blk_io.specs.Streams.{GoesOn};
 ghost use Rattle.blk_model.specs.Refusals.{no_room, refused};
 ghost use Rattle.blk_model.specs.Request.{to_create};
@@ -15,7 +15,7 @@ ghost use Rattle.blk_handles.specs.Bindings.{binding_of};
 ghost use Rattle.law_state.specs.Commands.{Does, MayStopAtEach};
 ghost use Rattle.blk_object.specs.FailedChecks.{IsFailedCheck};
 ghost use Rattle.blk_cache.specs.CacheKeeping.{HoldsState};
-ghost use Rattle.blk_cache.specs.CommandClauses.{DoneBy, ForCall, IsRefused, KeepsAny, SparedBy, StopsBy, UndamagedBy, UndamagedWhere, open_refusal};
+ghost use Rattle.blk_cache.specs.CommandClauses.{DoneBy, ForCall, IsRefused, KeepsAny, SparedBy, StopsBy, UndamagedBy, open_refusal};
 ghost use Rattle.blk_cache.specs.Creating.{IsNotRefused, WantsRoomAlone, WhereNotRefused, WhereWantsRoom, create_refusal};
 ghost use Rattle.blk_evict.specs.Looking.{IsLookUpDamage};
 ghost use Rattle.blk_evict.specs.RoomPrinting.{FailsWhereItRose};

@@ -1,8 +1,8 @@
 // The command DoomKey.
 ghost use Rattle.std.specs.Prelude.{◌≡◌, ◌≤◌, ℕ, IfOk, IfSome, IsTrue, Ok, OnOk, length};
 ghost use Rattle.std.specs.Option.{ForSome};
-ghost use Rattle.spec_image.specs.Told.{Stays, MayWrite};
-ghost use Rattle.blk_io.specs.Faults.{IfDamaged, IfDevice};
+ghost use Rattle.spec_image.specs.Told.{Stays, MayWrite, ForTold};
+ghost use Rattle.blk_io.specs.Faults.{IfDamaged, IfDevice, UndamagedWhere};
 ghost use Rattle.blk_model.specs.Refusals.{no_key};
 ghost use Rattle.blk_model.specs.Request.{to_doom_key};
 ghost use Rattle.blk_model.specs.Sizes.{longest_key};
@@ -12,9 +12,8 @@ ghost use Rattle.spec_format.specs.Address.{blocks_256, kind_of};
 ghost use Rattle.blk_disk.specs.Open.{IsOpen};
 ghost use Rattle.blk_disk.specs.Tables.{is_node_among, stands_among};
 ghost use Rattle.blk_object.specs.FailedChecks.{IsFailedCheck};
-ghost use Rattle.blk_cache.specs.CommandClauses.{DoneBy, ForCall, IsRefused, KeepsAny, SparedBy, StopsBy, UndamagedWhere};
+ghost use Rattle.blk_cache.specs.CommandClauses.{DoneBy, ForCall, IsRefused, KeepsAny, SparedBy, StopsBy};
 ghost use Rattle.blk_cache.specs.Dooming.{CacheDoomedBy, CacheDoomingBy, CacheUndamagedAt, ForEachKept};
-ghost use Rattle.blk_cache.specs.DoomingObjects.{ForTold};
 
 use crate::cache::Cache;
 use crate::dooming_objects::{Target, doom_target, find_target};

@@ -1,8 +1,8 @@
 // A live object is doomed in a folder.
 ghost use Rattle.std.specs.Prelude.{◌≡◌, ◌≤◌, ℕ, IfOk, IfSome, IsTrue, List, OnOk, Some, false, length, true};
 ghost use Rattle.std.specs.Option.{ForSome};
-ghost use Rattle.spec_image.specs.Told.{Passes, MayWrite, ReadsOnly};
-ghost use Rattle.blk_io.specs.Faults.{IfDamaged, IfDevice};
+ghost use Rattle.spec_image.specs.Told.{Passes, MayWrite, ReadsOnly, ForTold};
+ghost use Rattle.blk_io.specs.Faults.{IfDamaged, IfDevice, OpaqueIfDamaged, UndamagedWhere};
 ghost use Rattle.blk_model.specs.Effects.{doomed};
 ghost use Rattle.blk_model.specs.Sizes.{longest_key};
 ghost use Rattle.blk_model.specs.State.{State};
@@ -15,8 +15,7 @@ ghost use Rattle.law_state.specs.Changes.{SameSession};
 ghost use Rattle.law_state.specs.Keeping.{KeepsUncounted};
 ghost use Rattle.blk_object.specs.FailedChecks.{IsFailedCheck};
 ghost use Rattle.blk_object.specs.RemovingObjects.{FindsEither};
-ghost use Rattle.blk_cache.specs.DoomingObjects.{DoomedBy, DoomingBy, ForEachDoomTarget, ForEachOpenAt, ForEachWithKey, ForTold, IsDoomTarget, UndamagedAt, has_index};
-ghost use Rattle.blk_cache.specs.CommandClauses.{OpaqueIfDamaged, UndamagedWhere};
+ghost use Rattle.blk_cache.specs.DoomingObjects.{DoomedBy, DoomingBy, ForEachDoomTarget, ForEachOpenAt, ForEachWithKey, IsDoomTarget, UndamagedAt, has_index};
 ghost use Rattle.blk_evict.specs.Looking.{IsLookUpDamage, KeepsSomeState};
 ghost use Rattle.blk_evict.specs.NameBuffer.{name_buffer_len};
 ghost use Rattle.blk_sparse.specs.Parents.{ForEachParent, IsGoneWhole, IsGroupTold};

@@ -2,7 +2,7 @@
 ghost use Rattle.std.specs.Prelude.{◌≡◌, ◌+◌, [], ◌∷◌, IfOk, IsTrue, OnOk, true};
 ghost use Rattle.std.specs.Option.{ForSome};
 ghost use Rattle.spec_image.specs.Told.{Passes, MayWrite};
-ghost use Rattle.blk_io.specs.Faults.{IfDamaged, IfDevice};
+ghost use Rattle.blk_io.specs.Faults.{IfDamaged, IfDevice, UndamagedWhere};
 ghost use Rattle.blk_io.specs.Streams.{GoesOn};
 ghost use Rattle.blk_model.specs.Room.{without};
 ghost use Rattle.blk_disk.specs.Open.{IsOpen};
@@ -11,7 +11,6 @@ ghost use Rattle.blk_object.specs.FailedChecks.{IsFailedCheck};
 ghost use Rattle.blk_object.specs.RemovingObjects.{FindsEither};
 ghost use Rattle.blk_cache.specs.Covering.{KeepsCovered};
 ghost use Rattle.blk_cache.specs.Evicting.{BegunBy, EvictedBy, EvictingBy, ForEachThatMayGo, ForGoal, ForUnit, KeepsInPlaces, KeepsThatMayGo, OnlyItemsChange, PrintedBy, count_of_groups};
-ghost use Rattle.blk_cache.specs.CommandClauses.{UndamagedWhere};
 ghost use Rattle.blk_evict.specs.RoomPrinting.{FailsWhereItRose};
 
 use crate::cache::Cache;

@@ -2,7 +2,7 @@
 ghost use Rattle.std.specs.Prelude.{ℕ, IfOk, OnOk};
 ghost use Rattle.std.specs.List.{flat_map};
 ghost use Rattle.spec_image.specs.Told.{ReadsOnly};
-ghost use Rattle.blk_io.specs.Faults.{IfDamaged, IfDevice, IsShort};
+ghost use Rattle.blk_io.specs.Faults.{IfDamaged, IfDevice, IsShort, UndamagedWhere};
 ghost use Rattle.blk_io.specs.Streams.{GoesOn};
 ghost use Rattle.blk_io.specs.declared.folder.FileId.TheVariants as names;
 ghost use Rattle.blk_model.specs.Holding.{rows};
@@ -11,7 +11,7 @@ ghost use Rattle.blk_script.specs.Reply.{row_line};
 ghost use Rattle.law_state.specs.Commands.{ForKept};
 ghost use Rattle.blk_object.specs.FailedChecks.{IsFailedCheck};
 ghost use Rattle.blk_cache.specs.CacheKeeping.{HoldsState};
-ghost use Rattle.blk_cache.specs.CommandClauses.{DoneBy, ForCall, IsRefused, KeepsAny, UndamagedWhere};
+ghost use Rattle.blk_cache.specs.CommandClauses.{DoneBy, ForCall, IsRefused, KeepsAny};
 ghost use Rattle.blk_cache.specs.Listing.{OnlyRoomChanges};
 ghost use Rattle.blk_cache.specs.Stepping.{Puts, PutsPart};
 ghost use Rattle.blk_evict.specs.RoomPrinting.{FailsWhereItRose};

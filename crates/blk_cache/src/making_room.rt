@@ -3,7 +3,7 @@ ghost use Rattle.std.specs.Prelude.{◌≡◌, ◌≤◌, ◌&&◌, ◌||◌, �
 ghost use Rattle.spec_image.specs.Image.{Image};
 ghost use Rattle.std.specs.Option.{ForSome};
 ghost use Rattle.spec_image.specs.Told.{Rises, Stays, MayWrite};
-ghost use Rattle.blk_io.specs.Faults.{IfDamaged, IfDevice};
+ghost use Rattle.blk_io.specs.Faults.{IfDamaged, IfDevice, UndamagedWhere};
 ghost use Rattle.blk_io.specs.Streams.{GoesOn};
 ghost use Rattle.blk_model.specs.Refusals.{is_full as is_full_room};
 ghost use Rattle.blk_model.specs.Room.{fits, room};
@@ -12,7 +12,7 @@ ghost use Rattle.blk_disk.specs.Open.{IsOpen};
 ghost use Rattle.law_state.specs.Commands.{ForKept};
 ghost use Rattle.blk_object.specs.FailedChecks.{IsFailedCheck};
 ghost use Rattle.blk_cache.specs.CacheKeeping.{HoldsState};
-ghost use Rattle.blk_cache.specs.CommandClauses.{KeepsAny, UndamagedWhere};
+ghost use Rattle.blk_cache.specs.CommandClauses.{KeepsAny};
 ghost use Rattle.blk_cache.specs.Covering.{ForCovered, KeepsCovered};
 ghost use Rattle.blk_cache.specs.Evicting.{BegunBy, EvictedBy, EvictingBy, OnlyItemsChange, PrintedBy};
 ghost use Rattle.blk_cache.specs.MakingRoom.{ForMaking, ForMakingBeside, ForRoom, says_full};

@@ -2,7 +2,7 @@
 ghost use Rattle.std.specs.Prelude.{◌≡◌, ◌<◌, ◌^◌, IfOk, IfSome, IsTrue, None, Ok, Some, false, slice_set};
 ghost use Rattle.std.specs.Option.{ForSome};
 ghost use Rattle.spec_image.specs.Told.{Stays, MayWrite};
-ghost use Rattle.blk_io.specs.Faults.{IfDamaged, IfDevice};
+ghost use Rattle.blk_io.specs.Faults.{IfDamaged, IfDevice, UndamagedWhere};
 ghost use Rattle.blk_model.specs.Request.{to_open};
 ghost use Rattle.blk_model.specs.Sizes.{handle_names};
 ghost use Rattle.blk_model.specs.declared.Answer.TheVariants as answer;
@@ -10,7 +10,7 @@ ghost use Rattle.blk_disk.specs.Open.{IsOpen};
 ghost use Rattle.blk_disk.specs.Tables.{is_node_among, is_record_among};
 ghost use Rattle.blk_handles.specs.Bindings.{AreShared, binding_for, binding_of, is_open, open_with};
 ghost use Rattle.blk_object.specs.FailedChecks.{IsFailedCheck};
-ghost use Rattle.blk_cache.specs.CommandClauses.{DoneBy, ForCall, IsOpenDamage, IsRefused, KeepsAny, OnlyNamesChange, SparedBy, StopsBy, UndamagedWhere, charged_with, open_refusal};
+ghost use Rattle.blk_cache.specs.CommandClauses.{DoneBy, ForCall, IsOpenDamage, IsRefused, KeepsAny, OnlyNamesChange, SparedBy, StopsBy, charged_with, open_refusal};
 
 use crate::cache::Cache;
 use blk_addr::Addr;

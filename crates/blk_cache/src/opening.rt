@@ -4,14 +4,13 @@ ghost use Rattle.std.specs.Option.{ForSome};
 ghost use Rattle.spec_image.specs.Told.{Stays, MayWrite};
 ghost use Rattle.spec_format.specs.BlockFiles.{IsDamagedBy, IsUsable, IsWellFormed, first_damage};
 ghost use Rattle.spec_format.specs.Headers.{HasWholeIndex, IsUnfinished};
-ghost use Rattle.blk_io.specs.Faults.{IfDamaged, IfDevice, damage_of};
+ghost use Rattle.blk_io.specs.Faults.{IfDamaged, IfDevice, damage_of, OpaqueIfDamaged, UndamagedWhere};
 ghost use Rattle.blk_index.specs.Start.{IsFinished};
 ghost use Rattle.blk_disk.specs.Open.{IsOpen};
 ghost use Rattle.blk_repair.specs.Repair.{IsRepairable, NeedsOnlyWords};
 ghost use Rattle.blk_scan.specs.Scans.{StandAmong};
 ghost use Rattle.blk_cache.specs.Opened.{FromEach, IsJustMade, IsOpenedAs, IsOpeningDamage, MadeBy, MendedBy, MendingBy, OpenedBy};
 ghost use Rattle.blk_cache.specs.Opening.{IfOpenDamaged, IfOpenDevice, IfOpenMemory, OpensFolder, OpensOrBreaksOff, WasMadeAt};
-ghost use Rattle.blk_cache.specs.CommandClauses.{OpaqueIfDamaged, UndamagedWhere};
 
 use crate::fault::OpenFault;
 use blk_disk::BlockFiles;

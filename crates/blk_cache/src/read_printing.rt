@@ -1,11 +1,10 @@
 // The bytes of a Read are printed.
 ghost use Rattle.std.specs.Prelude.{◌≡◌, ◌<◌, ◌^◌, OnOk};
 ghost use Rattle.spec_image.specs.Told.{ReadsOnly};
-ghost use Rattle.blk_io.specs.Faults.{IfDamaged, IfDevice};
+ghost use Rattle.blk_io.specs.Faults.{IfDamaged, IfDevice, UndamagedWhere};
 ghost use Rattle.blk_io.specs.Streams.{GoesOn};
 ghost use Rattle.blk_object.specs.FailedChecks.{IsFailedCheck};
 ghost use Rattle.blk_cache.specs.ReadPrinting.{ForRange, KeepsRange, can_be_read};
-ghost use Rattle.blk_cache.specs.CommandClauses.{UndamagedWhere};
 ghost use Rattle.blk_cache.specs.Stepping.{Puts, PutsPart};
 ghost use Rattle.blk_evict.specs.RoomPrinting.{FailsWhereItRose};
 

@@ -2,7 +2,7 @@
 ghost use Rattle.std.specs.Prelude.{◌≡◌, ◌||◌, IfOk, IfSome, IsTrue, List, None};
 ghost use Rattle.std.specs.Option.{ForSome};
 ghost use Rattle.spec_image.specs.Told.{ReadsOnly};
-ghost use Rattle.blk_io.specs.Faults.{IfDamaged, IfDevice};
+ghost use Rattle.blk_io.specs.Faults.{IfDamaged, IfDevice, UndamagedWhere};
 ghost use Rattle.blk_model.specs.Items.{Item};
 ghost use Rattle.blk_model.specs.State.{State};
 ghost use Rattle.blk_disk.specs.Tables.{is_node_among, is_record_among};
@@ -13,7 +13,6 @@ ghost use Rattle.blk_cache.specs.CacheKeeping.{HoldsState};
 ghost use Rattle.blk_cache.specs.Covering.{LieCovered, covers};
 ghost use Rattle.blk_evict.specs.ListPlaces.{IsLast, IsPinnedFrom};
 ghost use Rattle.blk_cache.specs.RoomSearch.{KeepsPinnedFrom};
-ghost use Rattle.blk_cache.specs.CommandClauses.{UndamagedWhere};
 
 use crate::cache::Cache;
 use crate::covered::Covered;

@@ -1,12 +1,12 @@
 // The command Size.
 ghost use Rattle.std.specs.Prelude.{◌≡◌, ℕ, IfSome, Ok};
 ghost use Rattle.spec_image.specs.Told.{ReadsOnly};
-ghost use Rattle.blk_io.specs.Faults.{IfDamaged, IfDevice};
+ghost use Rattle.blk_io.specs.Faults.{IfDamaged, IfDevice, UndamagedWhere};
 ghost use Rattle.blk_model.specs.Request.{to_size};
 ghost use Rattle.blk_model.specs.declared.Answer.TheVariants as answer;
 ghost use Rattle.blk_object.specs.FailedChecks.{IsFailedCheck};
 ghost use Rattle.blk_cache.specs.Asking.{IsAskDamage, early_stream_refusal};
-ghost use Rattle.blk_cache.specs.CommandClauses.{DoneBy, ForCall, KeepsAny, UndamagedWhere};
+ghost use Rattle.blk_cache.specs.CommandClauses.{DoneBy, ForCall, KeepsAny};
 
 use crate::asking::Asked;
 use crate::cache::Cache;

@@ -1,11 +1,11 @@
 // The live object that a request on sparse data names by a handle.
 ghost use Rattle.std.specs.Prelude.{◌≡◌, ◌&&◌, ◌==◌, IfOk, IfSome, Ok, slice_index};
 ghost use Rattle.spec_image.specs.Told.{ReadsOnly};
-ghost use Rattle.blk_io.specs.Faults.{IfDamaged, IfDevice};
+ghost use Rattle.blk_io.specs.Faults.{IfDamaged, IfDevice, UndamagedWhere};
 ghost use Rattle.blk_object.specs.FailedChecks.{IsFailedCheck};
 ghost use Rattle.blk_cache.specs.SparseAsking.{FindsInside, IsAmongFiles, IsAskedSparse, early_sparse_refusal};
 ghost use Rattle.blk_cache.specs.declared.sparse_asking.AskedSparse.TheVariants as asked;
-ghost use Rattle.blk_cache.specs.CommandClauses.{ForLayout, KeepsAny, UndamagedWhere};
+ghost use Rattle.blk_cache.specs.CommandClauses.{ForLayout, KeepsAny};
 
 use crate::cache::Cache;
 use blk_addr::Addr;

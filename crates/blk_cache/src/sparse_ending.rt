@@ -2,7 +2,7 @@
 ghost use Rattle.std.specs.Prelude.{◌≡◌, ◌≤◌, ◌<◌, ◌+◌, IfOk, IsSome, OnOk, length};
 ghost use Rattle.std.specs.Option.{ForSome};
 ghost use Rattle.spec_image.specs.Told.{Passes, MayWrite};
-ghost use Rattle.blk_io.specs.Faults.{IfDamaged, IfDevice};
+ghost use Rattle.blk_io.specs.Faults.{IfDamaged, IfDevice, UndamagedWhere};
 ghost use Rattle.blk_model.specs.Holding.{rest};
 ghost use Rattle.blk_model.specs.Sizes.{largest_offset, part_size, signatures};
 ghost use Rattle.blk_model.specs.State.{State};
@@ -15,7 +15,6 @@ ghost use Rattle.blk_object.specs.FailedChecks.{IsFailedCheck};
 ghost use Rattle.blk_sparse.specs.SparseWrites.{signature_to, sparse_state};
 ghost use Rattle.blk_cache.specs.CacheKeeping.{HoldsState};
 ghost use Rattle.blk_cache.specs.SparseWriting.{CanStore, CountsParts, IsReadyToStoreFor, IsReadyToStoreForSome, KeepsToStoreFor, own_target, sparse_write_of};
-ghost use Rattle.blk_cache.specs.CommandClauses.{UndamagedWhere};
 
 use crate::cache::Cache;
 use crate::sparse_writing::SparseRequest;

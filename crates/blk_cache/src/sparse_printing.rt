@@ -2,13 +2,12 @@
 ghost use Rattle.std.specs.Prelude.{OnOk};
 ghost use Rattle.std.specs.Option.{ForSome};
 ghost use Rattle.spec_image.specs.Told.{ReadsOnly};
-ghost use Rattle.blk_io.specs.Faults.{IfDamaged, IfDevice};
+ghost use Rattle.blk_io.specs.Faults.{IfDamaged, IfDevice, UndamagedWhere};
 ghost use Rattle.blk_io.specs.Streams.{GoesOn};
 ghost use Rattle.blk_disk.specs.Open.{IsOpen};
 ghost use Rattle.blk_object.specs.FailedChecks.{IsFailedCheck};
 ghost use Rattle.blk_cache.specs.Listing.{OnlyRoomChanges};
 ghost use Rattle.blk_cache.specs.ReadPrinting.{ForPresent, KeepsPresent};
-ghost use Rattle.blk_cache.specs.CommandClauses.{UndamagedWhere};
 ghost use Rattle.blk_cache.specs.Stepping.{Puts, PutsPart};
 ghost use Rattle.blk_evict.specs.RoomPrinting.{FailsWhereItRose};
 

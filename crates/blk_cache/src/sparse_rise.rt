@@ -2,7 +2,7 @@
 ghost use Rattle.std.specs.Prelude.{◌≡◌, ◌≤◌, ◌<◌, ◌+◌, ◌^◌, ℕ, IfOk, IsTrue, List, length};
 ghost use Rattle.std.specs.Option.{ForSome};
 ghost use Rattle.spec_image.specs.Told.{ReadsOnly};
-ghost use Rattle.blk_io.specs.Faults.{IfDamaged, IfDevice};
+ghost use Rattle.blk_io.specs.Faults.{IfDamaged, IfDevice, OpaqueIfDamaged};
 ghost use Rattle.blk_model.specs.Sizes.{largest_offset, part_size, signatures};
 ghost use Rattle.blk_model.specs.State.{State};
 ghost use Rattle.blk_disk.specs.Open.{IsOpen};
@@ -14,7 +14,6 @@ ghost use Rattle.blk_sparse.specs.SparseWrites.{signature_to};
 ghost use Rattle.blk_cache.specs.CacheKeeping.{HoldsState};
 ghost use Rattle.blk_cache.specs.Listing.{OnlyRoomChanges};
 ghost use Rattle.blk_cache.specs.SparseTargets.{IsRise, IsTargetNamed, rise_of};
-ghost use Rattle.blk_cache.specs.CommandClauses.{OpaqueIfDamaged};
 
 use crate::cache::Cache;
 use crate::covered::Covered;

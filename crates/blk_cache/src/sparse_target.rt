@@ -1,10 +1,10 @@
 // The object that a SparseWrite writes to.
 ghost use Rattle.std.specs.Prelude.{◌≡◌, IfOk, IfSome, Ok, length};
 ghost use Rattle.spec_image.specs.Told.{ReadsOnly};
-ghost use Rattle.blk_io.specs.Faults.{IfDamaged, IfDevice};
+ghost use Rattle.blk_io.specs.Faults.{IfDamaged, IfDevice, UndamagedWhere};
 ghost use Rattle.blk_object.specs.FailedChecks.{IsFailedCheck};
 ghost use Rattle.blk_cache.specs.declared.sparse_target.AskedTarget.TheVariants as target;
-ghost use Rattle.blk_cache.specs.CommandClauses.{ForLayout, KeepsAny, UndamagedWhere};
+ghost use Rattle.blk_cache.specs.CommandClauses.{ForLayout, KeepsAny};
 ghost use Rattle.blk_cache.specs.SparseAsking.{early_sparse_refusal};
 ghost use Rattle.blk_cache.specs.SparseTargets.{FindsTarget, IsAskedTarget, asked_plain, asked_target};
 

@@ -3,7 +3,7 @@ ghost use Rattle.std.specs.Prelude.{◌≡◌, ◌≤◌, ◌+◌, ◌∷◌, �
 ghost use Rattle.std.specs.Option.{ForSome, option_map};
 ghost use Rattle.spec_image.specs.Steps.{Note};
 ghost use Rattle.spec_image.specs.Told.{Applies, Rises, Stays};
-ghost use Rattle.blk_io.specs.Faults.{IfDamaged, IfDevice};
+ghost use Rattle.blk_io.specs.Faults.{IfDamaged, IfDevice, UndamagedWhere};
 ghost use Rattle.blk_io.specs.Streams.{Appends, GoesOn};
 ghost use Rattle.blk_model.specs.Reply.{answer_of};
 ghost use Rattle.blk_model.specs.Request.{request_of, to_close};
@@ -16,7 +16,7 @@ ghost use Rattle.spec_run.specs.Progress.{NotesCommand};
 ghost use Rattle.spec_run.specs.Run.{at_moment};
 ghost use Rattle.spec_run.specs.Script.{is_refused};
 ghost use Rattle.blk_cache.specs.CacheKeeping.{KeepsState};
-ghost use Rattle.blk_cache.specs.CommandClauses.{DoneBy, FlushesClean, ForCall, IsOnSparse, IsRefused, KeepsAny, OnlyNotesChange, SparedBy, StaysIfClean, StopsBy, UndamagedWhere};
+ghost use Rattle.blk_cache.specs.CommandClauses.{DoneBy, FlushesClean, ForCall, IsOnSparse, IsRefused, KeepsAny, OnlyNotesChange, SparedBy, StaysIfClean, StopsBy};
 ghost use Rattle.blk_evict.specs.RoomPrinting.{FailsWhereItRose};
 ghost use Rattle.blk_cache.specs.Stepping.{FailsBefore, FrontBy, IfDone, IfSink, IfStepDamaged, IfStepDevice, SaidBy};
 

@@ -2,7 +2,7 @@
 ghost use Rattle.std.specs.Prelude.{All, ◌≡◌, ◌≤◌, ◌<◌, ◌^◌, IfOk, IfSome, IsTrue, None, Ok, OnOk, false, length, true, ℕ, Bool};
 ghost use Rattle.std.specs.Option.{ForSome};
 ghost use Rattle.spec_image.specs.Told.{Passes, Rises, Stays, MayWrite, ReadsOnly};
-ghost use Rattle.blk_io.specs.Faults.{IfDamaged, IfDevice};
+ghost use Rattle.blk_io.specs.Faults.{IfDamaged, IfDevice, UndamagedWhere};
 ghost use Rattle.blk_io.specs.Streams.{GoesOn};
 ghost use Rattle.blk_model.specs.Holding.{rest};
 ghost use Rattle.blk_model.specs.Sizes.{longest_stream, most_stream};
@@ -16,7 +16,7 @@ ghost use Rattle.law_state.specs.Commands.{IsDone, MayStop};
 ghost use Rattle.blk_object.specs.FailedChecks.{IsFailedCheck};
 ghost use Rattle.blk_cache.specs.declared.asking.Asked.TheVariants as asked;
 ghost use Rattle.blk_cache.specs.CacheKeeping.{HoldsState};
-ghost use Rattle.blk_cache.specs.CommandClauses.{DoneBy, IsRefused, KeepsAny, SparedBy, StopsBy, UndamagedWhere};
+ghost use Rattle.blk_cache.specs.CommandClauses.{DoneBy, IsRefused, KeepsAny, SparedBy, StopsBy};
 ghost use Rattle.blk_evict.specs.RoomPrinting.{FailsWhereItRose};
 ghost use Rattle.blk_cache.specs.Stepping.{FrontBy, SaidBy};
 ghost use Rattle.blk_cache.specs.Writing.{CanGetFor, CountsRise, ForEachToUse, ForWrite, IsAskedToWrite, IsNotRefusedEarly, IsReadyToWriteFor, IsReadyToWriteForSome, IsUsedAndCounted, KeepsToWriteFor, early_refusal, early_write_refusal, state_written, write_of};

@@ -1,8 +1,8 @@
 // An eviction unit is removed from a folder, and printed.
 ghost use Rattle.std.specs.Prelude.{◌≡◌, ◌≤◌, ◌<◌, ◌^◌, ◌+◌, All, IfOk, IfSome, IsTrue, OnOk, length, true};
 ghost use Rattle.std.specs.Option.{ForSome};
-ghost use Rattle.spec_image.specs.Told.{MayWrite, ReadsOnly};
-ghost use Rattle.blk_io.specs.Faults.{IfDamaged, IfDevice};
+ghost use Rattle.spec_image.specs.Told.{MayWrite, ReadsOnly, EndsIn};
+ghost use Rattle.blk_io.specs.Faults.{IfDamaged, IfDevice, OpaqueIfDamaged};
 ghost use Rattle.blk_io.specs.Streams.{GoesOn};
 ghost use Rattle.blk_model.specs.Refusals.{no_key};
 ghost use Rattle.blk_model.specs.Sizes.{longest_key};
@@ -18,7 +18,6 @@ ghost use Rattle.blk_object.specs.Removing.{LiesBehind};
 ghost use Rattle.blk_evict.specs.EvictingGroups.{IsItemName, alone_kind};
 ghost use Rattle.blk_evict.specs.NameBuffer.{name_buffer_len};
 ghost use Rattle.blk_evict.specs.RoomPrinting.{FailsWhereItRose};
-ghost use Rattle.blk_object.specs.Calls.{OpaqueIfDamaged, EndsIn};
 ghost use Rattle.blk_evict.specs.EvictionCalls.{ForGoing, ForOfKind, ForOwned, WhereOwned, ForOwnedParent, TakesGroup, SaysGroup, FrontOfGroup, StopsGroup, ForParentAt, WhereParentAt, TakesParent, CountsParent, SaysParts, FrontOfParts, StopsParent, ForListed, WhereListed};
 
 use crate::item_names::{EntryKind, read_name};

@@ -2,7 +2,7 @@
 ghost use Rattle.std.specs.Prelude.{◌≡◌, ◌≤◌, ◌<◌, ◌^◌, All, IfOk, IsTrue, length, take};
 ghost use Rattle.std.specs.Option.{ForSome};
 ghost use Rattle.spec_image.specs.Told.{ReadsOnly};
-ghost use Rattle.blk_io.specs.Faults.{IfDamaged, IfDevice};
+ghost use Rattle.blk_io.specs.Faults.{IfDamaged, IfDevice, OpaqueIfDamaged};
 ghost use Rattle.blk_disk.specs.Tables.{is_record_among};
 ghost use Rattle.blk_entry.specs.Keys.{most_key};
 ghost use Rattle.blk_object.specs.FailedChecks.{IsFailedCheck};
@@ -10,7 +10,6 @@ ghost use Rattle.blk_object.specs.Freeing.{IsPlaceAmong};
 ghost use Rattle.blk_object.specs.Owning.{ForLoaded};
 ghost use Rattle.blk_object.specs.RemovingObjects.{IsOwnedBy};
 ghost use Rattle.blk_evict.specs.EvictingGroups.{IsItemName, IsNamedAs, kind_said};
-ghost use Rattle.blk_object.specs.Calls.{OpaqueIfDamaged};
 ghost use Rattle.blk_evict.specs.Looking.{WhereLoads};
 
 use blk_addr::Addr;

@@ -3,14 +3,13 @@ ghost use Rattle.std.specs.Prelude.{◌≡◌, IfOk, IfSome, IsTrue};
 ghost use Rattle.std.specs.Option.{ForSome};
 ghost use Rattle.spec_image.specs.Told.{ReadsOnly};
 ghost use Rattle.spec_format.specs.Address.{blocks_256, kind_of};
-ghost use Rattle.blk_io.specs.Faults.{IfDamaged, IfDevice};
+ghost use Rattle.blk_io.specs.Faults.{IfDamaged, IfDevice, OpaqueIfDamaged, UndamagedWhere};
 ghost use Rattle.spec_folder.specs.View.{entry_at};
 ghost use Rattle.blk_disk.specs.Open.{IsOpen};
 ghost use Rattle.blk_disk.specs.Tables.{is_node_among, is_record_among, stands_among};
 ghost use Rattle.blk_entry.specs.Keys.{IsHeadDamage};
 ghost use Rattle.blk_evict.specs.EvictingGroups.{kind_said};
 ghost use Rattle.blk_evict.specs.Looking.{IsEntryDamage, IsLookUpDamage, KeepsSomeState, charge_at, IsLiveOfKept, WhereLoads, NamesNode};
-ghost use Rattle.blk_object.specs.Calls.{OpaqueIfDamaged, UndamagedWhere};
 
 use crate::item_names::{EntryKind, kind_said};
 use blk_addr::Addr;

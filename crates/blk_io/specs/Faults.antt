@@ -1,5 +1,5 @@
 -- What the errors of calls that read and check say.
-use Rattle.std.specs.Prelude.{◌≡◌, ℕ, ◌-◌, ◌<◌, min, Result, Ok, Err}
+use Rattle.std.specs.Prelude.{◌≡◌, ℕ, ◌-◌, ◌<◌, min, None, Result, Ok, Err, IfOk}
 use Rattle.std.specs.Option.{ForSome}
 use Rattle.spec_image.specs.Image.{File, HasRange, Image, length_of}
 use Rattle.spec_image.specs.Told.{Told}
@@ -25,6 +25,18 @@ abbrev pub IfDevice : {A : Type 0} → Result A Fault → Type 0 → Type 0
 IfDevice (Ok a) P = Unit {0}
 IfDevice (Err Device) P = P
 IfDevice (Err (Damaged damage)) P = Unit {0}
+
+-- where the answer is a failed check, the folder is opaque
+abbrev pub OpaqueIfDamaged : {A : Type 0} → Result A Fault → Told → Type 0
+OpaqueIfDamaged result told = IfDamaged result (λ _. told.files ≡ None)
+
+-- where P holds of an observable folder, the answer is no failed check
+abbrev pub UndamagedWhere : {A : Type 0} → Result A Fault → Told → (Image → Type 0) → Type 0
+UndamagedWhere result told P = ForSome told.files P → OpaqueIfDamaged result told
+
+-- where the answer is Ok, P holds of it and of an observable folder
+abbrev pub OkFor : {A E : Type 0} → Result A E → Told → (A → Image → Type 0) → Type 0
+OkFor result told P = IfOk result (λ answer. ForSome told.files (P answer))
 
 -- a read of `count` bytes at an offset gave fewer: the error has the file and the offset, and as its word how many bytes there were
 pub record IsShort (told : Told) (file : FileId) (place count : ℕ) (damage : Damage) : Type 0 where

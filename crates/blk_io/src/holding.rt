@@ -1,5 +1,5 @@
 // An output in memory that holds back what it gets until it is flushed.
-ghost use Rattle.std.specs.Prelude.{◌≡◌, [], ◌++◌, false, Some, OnOk, OnErr, IfOk, is_err};
+ghost use Rattle.std.specs.Prelude.{◌≡◌, [], ◌++◌, false, Some, OnOk, OnErr, is_err};
 ghost use Rattle.std.specs.Option.{option_map};
 ghost use Rattle.spec_image.specs.Told.{Rises};
 ghost use Rattle.blk_io.specs.Counts.{no_calls, with_listed, fails_next};

@@ -4,7 +4,6 @@ pub mod KeptLists
 pub mod KeptMarks
 pub mod KeptEntries
 pub mod KeptChains
-pub mod Calls
 pub mod Making
 pub mod Removing
 pub mod Freeing

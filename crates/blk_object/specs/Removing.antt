@@ -17,9 +17,8 @@ use Rattle.law_state.specs.PlainRemovals.{IsRemoved, IsRemoving}
 use Rattle.law_state.specs.RemovalLaws.{IsRemovalDone, chains_without}
 use Rattle.law_state.specs.WordStops.{IsMidRemoval}
 use Rattle.blk_object.specs.KeptLists.{IsAmidList}
-use Rattle.spec_image.specs.Told.{Told}
+use Rattle.spec_image.specs.Told.{Told, LeavesWhere, StopsWhere}
 use Rattle.blk_chain.specs.declared.found.Found.{Found}
-use Rattle.blk_object.specs.Calls.{LeavesWhere, StopsWhere}
 
 -- The contract of the call.
 

@@ -1,14 +1,13 @@
 // An object that a handle names is doomed.
 ghost use Rattle.std.specs.Prelude.{◌≡◌, IfSome, IsTrue, OnOk};
 ghost use Rattle.std.specs.Option.{ForSome};
-ghost use Rattle.spec_image.specs.Told.{MayWrite};
+ghost use Rattle.spec_image.specs.Told.{MayWrite, EndsIn};
 ghost use Rattle.spec_format.specs.Address.{blocks_256, kind_of};
-ghost use Rattle.blk_io.specs.Faults.{IfDamaged, IfDevice};
+ghost use Rattle.blk_io.specs.Faults.{IfDamaged, IfDevice, OpaqueIfDamaged};
 ghost use Rattle.blk_disk.specs.Open.{IsOpen};
 ghost use Rattle.blk_disk.specs.Tables.{is_node_among, stands_among};
 ghost use Rattle.law_state.specs.Changes.{SameSession};
 ghost use Rattle.blk_object.specs.FailedChecks.{IsFailedCheck};
-ghost use Rattle.blk_object.specs.Calls.{OpaqueIfDamaged, EndsIn};
 ghost use Rattle.blk_object.specs.RemovalCalls.{ForOut, WhereOut, DoomsOut, StopsOut, ForHeld, WhereHeld, DoomsHeld, DoomsUncounted, StopsDooming};
 
 use crate::counters::count_less;

@@ -4,13 +4,12 @@ ghost use Rattle.std.specs.Option.{ForSome};
 ghost use Rattle.spec_image.specs.Told.{MayWrite};
 ghost use Rattle.spec_format.specs.Sealed.{record_size};
 ghost use Rattle.spec_folder.specs.View.{list_of};
-ghost use Rattle.blk_io.specs.Faults.{IfDamaged, IfDevice};
+ghost use Rattle.blk_io.specs.Faults.{IfDamaged, IfDevice, UndamagedWhere};
 ghost use Rattle.blk_disk.specs.Damages.{IsFailedRecord};
 ghost use Rattle.blk_disk.specs.Open.{IsOpen};
 ghost use Rattle.blk_disk.specs.Tables.{is_node_among, is_record_among};
 ghost use Rattle.blk_object.specs.Ending.{Cleans, FreesAll, HasFreeable, MayEndObject};
 ghost use Rattle.blk_object.specs.FailedChecks.{IsFailedCheck};
-ghost use Rattle.blk_object.specs.Calls.{UndamagedWhere};
 
 use crate::marking::set_dirty_word;
 use crate::owning::{free_owned, read_owned};

@@ -3,12 +3,11 @@ ghost use Rattle.std.specs.Prelude.{◌≡◌, ◌==◌, ◌∷◌, [], All, Non
 ghost use Rattle.std.specs.Option.{ForSome};
 ghost use Rattle.spec_image.specs.Told.{Passes, MayWrite};
 ghost use Rattle.spec_format.specs.Address.{external, kind_of};
-ghost use Rattle.blk_io.specs.Faults.{IfDamaged, IfDevice};
+ghost use Rattle.blk_io.specs.Faults.{IfDamaged, IfDevice, UndamagedWhere};
 ghost use Rattle.blk_disk.specs.Open.{IsOpen};
 ghost use Rattle.blk_stream.specs.Freeing.{MayBeFreed};
 ghost use Rattle.blk_object.specs.FailedChecks.{IsFailedCheck};
 ghost use Rattle.blk_object.specs.Freeing.{AreFreeable, IsPlaceGoing, words_at, IsPlaceAmong, FreesWords, StopsFreeing, FreesStanding};
-ghost use Rattle.blk_object.specs.Calls.{UndamagedWhere};
 
 use blk_addr::{Addr, Kind};
 use blk_alloc::free;

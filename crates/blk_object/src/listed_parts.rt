@@ -6,7 +6,7 @@ ghost use Rattle.blk_model.specs.Sizes.{part_count};
 ghost use Rattle.spec_format.specs.Address.{blocks_256, kind_of};
 ghost use Rattle.spec_format.specs.Names.{read_name};
 ghost use Rattle.spec_folder.specs.View.{node_at};
-ghost use Rattle.blk_io.specs.Faults.{IfDamaged, IfDevice};
+ghost use Rattle.blk_io.specs.Faults.{IfDamaged, IfDevice, OpaqueIfDamaged, UndamagedWhere};
 ghost use Rattle.blk_disk.specs.Open.{IsOpen};
 ghost use Rattle.blk_disk.specs.Tables.{Agrees, is_node_among, stands_among};
 ghost use Rattle.blk_entry.specs.Keys.{most_key};
@@ -14,7 +14,6 @@ ghost use Rattle.blk_object.specs.FailedChecks.{IsFailedCheck};
 ghost use Rattle.blk_object.specs.ListedParts.{IsFoundPart, IsPartThere, SaysPart, first_node, number_said, part_loaded, part_number, ForLoadedAt, LoadsSomeAt, IsAtItsNode, ForSearch};
 ghost use Rattle.blk_object.specs.ListWalks.{GoesTo, WalkEnds};
 ghost use Rattle.blk_object.specs.Owning.{ForLoaded, LoadsSomeWith};
-ghost use Rattle.blk_object.specs.Calls.{OpaqueIfDamaged, UndamagedWhere};
 
 use crate::list_walks::{end_walk, node_damage};
 use blk_addr::Addr;

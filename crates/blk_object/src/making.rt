@@ -1,9 +1,9 @@
 // A new object is made.
 ghost use Rattle.std.specs.Prelude.{◌≤◌, IfOk, IsTrue, OnOk, length};
 ghost use Rattle.std.specs.Option.{ForSome};
-ghost use Rattle.spec_image.specs.Told.{Passes, MayWrite};
+ghost use Rattle.spec_image.specs.Told.{Passes, MayWrite, LeavesWhere, StopsWhere};
 ghost use Rattle.blk_model.specs.Sizes.{longest_key};
-ghost use Rattle.blk_io.specs.Faults.{IfDamaged, IfDevice};
+ghost use Rattle.blk_io.specs.Faults.{IfDamaged, IfDevice, OpaqueIfDamaged, UndamagedWhere};
 ghost use Rattle.blk_disk.specs.Open.{IsOpen};
 ghost use Rattle.blk_disk.specs.Tables.{is_node_among, is_record_among};
 ghost use Rattle.blk_entry.specs.Writing.{FitsKey, HoldsLongKey, LiesApart};
@@ -11,7 +11,6 @@ ghost use Rattle.blk_alloc.specs.Extending.{KeepsStanding};
 ghost use Rattle.law_state.specs.Changes.{SameCounters, StillFinds};
 ghost use Rattle.blk_object.specs.FailedChecks.{IsFailedCheck};
 ghost use Rattle.blk_object.specs.Making.{CanBeListed, CreatesCanHaveNew, FindsUntilListed, FindsWhileMade, HasNewObjects, HasRoomForNew, HasTimes, IsEntryOfKept, IsEntryListed, KeepsTimes, new_entry, words_of_places, IsOfSession};
-ghost use Rattle.blk_object.specs.Calls.{OpaqueIfDamaged, UndamagedWhere, LeavesWhere, StopsWhere};
 
 use crate::counters::{count_entry, read_counters};
 use crate::making_places::{Places, take_places};

@@ -2,13 +2,13 @@
 ghost use Rattle.std.specs.Prelude.{◌≡◌, ◌≢◌, ◌+◌, ◌==◌, ◌<◌, ◌≤◌, [], ◌∷◌, true, false, Some, IfOk, OnOk, IsTrue, nat_le};
 ghost use Rattle.std.specs.Option.{ForSome};
 ghost use Rattle.spec_image.specs.Image.{External as external_file, length_of};
-ghost use Rattle.spec_image.specs.Told.{Passes, MayWrite, ReadsOnly};
+ghost use Rattle.spec_image.specs.Told.{Passes, MayWrite, ReadsOnly, LeavesWhere};
 ghost use Rattle.spec_format.specs.Address.{block_count, blocks_256, external, external_number, file_selector, first_block, is_address, kind_of, rankings};
 ghost use Rattle.spec_format.specs.Headers.{HasWholeIndex};
 ghost use Rattle.spec_format.specs.Maps.{group_size};
 ghost use Rattle.spec_format.specs.Names.{longest_name};
 ghost use Rattle.blk_addr.specs.Kind.{kind_number};
-ghost use Rattle.blk_io.specs.Faults.{IfDamaged, IfDevice};
+ghost use Rattle.blk_io.specs.Faults.{IfDamaged, IfDevice, UndamagedWhere};
 ghost use Rattle.blk_disk.specs.Open.{IsOpen};
 ghost use Rattle.blk_disk.specs.Tables.{stands_among};
 ghost use Rattle.blk_entry.specs.Keys as keys;
@@ -17,7 +17,6 @@ ghost use Rattle.blk_alloc.specs.Extending.{KeepsStanding};
 ghost use Rattle.law_state.specs.Changes.{StillFinds};
 ghost use Rattle.blk_object.specs.FailedChecks.{HasOtherLength, IsFailedCheck, IsSharedKey};
 ghost use Rattle.blk_object.specs.Making.{LeavesRoom, Takes, long_word, words_of_places, IsRecordPlace, IsLongIfExternal};
-ghost use Rattle.blk_object.specs.Calls.{UndamagedWhere, LeavesWhere};
 
 use blk_addr::{Addr, Kind, LONGEST_SHORT_KEY, blocks_for, entry_blocks, kind_for};
 use blk_alloc::allocate;

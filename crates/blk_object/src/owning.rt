@@ -7,13 +7,12 @@ ghost use Rattle.spec_format.specs.Records.{entry_size};
 ghost use Rattle.spec_folder.specs.Found.{charge_of};
 ghost use Rattle.spec_folder.specs.Sound.{words_of};
 ghost use Rattle.spec_folder.specs.View.{entry_at};
-ghost use Rattle.blk_io.specs.Faults.{IfDamaged, IfDevice};
+ghost use Rattle.blk_io.specs.Faults.{IfDamaged, IfDevice, UndamagedWhere};
 ghost use Rattle.blk_disk.specs.Open.{IsOpen};
 ghost use Rattle.blk_disk.specs.Tables.{Agrees, stands_among};
 ghost use Rattle.blk_object.specs.FailedChecks.{IsFailedCheck, IsLostWord};
 ghost use Rattle.blk_object.specs.Freeing.{AreFreeable, IsPlaceAmong, words_at, FreesWords, StopsFreeing};
 ghost use Rattle.blk_object.specs.Owning.{is_there, ForLoaded, LoadsSomeWith};
-ghost use Rattle.blk_object.specs.Calls.{UndamagedWhere};
 
 use crate::freeing::{free_places, is_external};
 use blk_addr::Addr;

@@ -1,14 +1,13 @@
 // The main item of an object is removed from list and chain before its parts.
 ghost use Rattle.std.specs.Prelude.{◌≡◌, IfSome, IsTrue, OnOk};
 ghost use Rattle.std.specs.Option.{ForSome};
-ghost use Rattle.spec_image.specs.Told.{MayWrite};
+ghost use Rattle.spec_image.specs.Told.{MayWrite, EndsIn};
 ghost use Rattle.spec_format.specs.Address.{blocks_256, kind_of};
-ghost use Rattle.blk_io.specs.Faults.{IfDamaged, IfDevice};
+ghost use Rattle.blk_io.specs.Faults.{IfDamaged, IfDevice, OpaqueIfDamaged};
 ghost use Rattle.blk_disk.specs.Open.{IsOpen};
 ghost use Rattle.blk_disk.specs.Tables.{is_node_among, stands_among};
 ghost use Rattle.law_state.specs.Changes.{SameSession};
 ghost use Rattle.blk_object.specs.FailedChecks.{IsFailedCheck};
-ghost use Rattle.blk_object.specs.Calls.{OpaqueIfDamaged, EndsIn};
 ghost use Rattle.blk_object.specs.RemovalCalls.{StopsDooming, ForMain, WhereMain, TakesMain};
 
 use crate::counters::count_less;

@@ -4,14 +4,13 @@ ghost use Rattle.std.specs.Option.{ForSome};
 ghost use Rattle.spec_image.specs.Told.{MayWrite, ReadsOnly};
 ghost use Rattle.spec_format.specs.Address.{blocks_256, kind_of};
 ghost use Rattle.spec_folder.specs.Entries.{most_stream_bytes};
-ghost use Rattle.blk_io.specs.Faults.{IfDamaged, IfDevice};
+ghost use Rattle.blk_io.specs.Faults.{IfDamaged, IfDevice, OpaqueIfDamaged, UndamagedWhere};
 ghost use Rattle.blk_disk.specs.Open.{IsOpen};
 ghost use Rattle.blk_disk.specs.Tables.{Agrees, stands_among};
 ghost use Rattle.blk_entry.specs.Keys.{IsInFile};
 ghost use Rattle.blk_alloc.specs.Extending.{KeepsStanding};
 ghost use Rattle.blk_object.specs.FailedChecks.{IsFailedCheck, ReadsTooFew};
 ghost use Rattle.blk_object.specs.Writing.{HasStreamThere, IsStreamThere, IsStreamDamage, ForUnsettled, WhereUnsettled, WritesObject, StopsWriting, ForPartUnsettled, WherePartUnsettled, WritesPartStream, StopsPartWriting};
-ghost use Rattle.blk_object.specs.Calls.{OpaqueIfDamaged, UndamagedWhere};
 
 use crate::freeing::is_external;
 use crate::making_places::check_index;

@@ -2,7 +2,7 @@
 ghost use Rattle.std.specs.Prelude.{◌≡◌, ◌≤◌, IsTrue, None, OnErr, OnOk, length};
 ghost use Rattle.std.specs.Option.{ForSome};
 ghost use Rattle.spec_image.specs.Told.{ReadsOnly};
-ghost use Rattle.blk_io.specs.Faults.{IfDamaged, IfDevice};
+ghost use Rattle.blk_io.specs.Faults.{IfDamaged, IfDevice, UndamagedWhere};
 ghost use Rattle.blk_io.specs.Streams.{GoesOn};
 ghost use Rattle.spec_format.specs.Address.{blocks_256, kind_of};
 ghost use Rattle.spec_folder.specs.Loads.{Loaded};
@@ -15,7 +15,6 @@ ghost use Rattle.blk_object.specs.ListedParts.{LoadsSomeAt};
 ghost use Rattle.blk_object.specs.ListWalks.{WalkEnds};
 ghost use Rattle.blk_print.specs.ItemRows.{HasKeptState, IsItemToldBy, ForKeptRows, ForRowAt, ForRowOf};
 ghost use Rattle.blk_evict.specs.RoomPrinting.{FailsWhereItRose};
-ghost use Rattle.blk_object.specs.Calls.{UndamagedWhere};
 ghost use Rattle.blk_print.specs.PrintCalls.{SaysText, SaysPart};
 
 use crate::row_printing::{say_part, say_plain, say_sparse};

@@ -2,7 +2,7 @@
 ghost use Rattle.std.specs.Prelude.{◌≡◌, ◌≤◌, ◌+◌, IfSome, IsTrue, OnOk, length};
 ghost use Rattle.std.specs.Option.{ForSome};
 ghost use Rattle.spec_image.specs.Told.{ReadsOnly};
-ghost use Rattle.blk_io.specs.Faults.{IfDamaged, IfDevice};
+ghost use Rattle.blk_io.specs.Faults.{IfDamaged, IfDevice, UndamagedWhere};
 ghost use Rattle.blk_io.specs.Streams.{GoesOn};
 ghost use Rattle.blk_model.specs.Sizes.{largest_offset, longest_key, part_size};
 ghost use Rattle.spec_format.specs.Address.{blocks_256, is_address, kind_of};
@@ -12,7 +12,6 @@ ghost use Rattle.blk_disk.specs.Tables.{is_record_among, stands_among};
 ghost use Rattle.blk_object.specs.FailedChecks.{IsFailedCheck};
 ghost use Rattle.blk_print.specs.PresentPrinting.{HasPresent, ForPresentBytes, ForPresentBytesIn, HasPresentIn};
 ghost use Rattle.blk_evict.specs.RoomPrinting.{FailsWhereItRose};
-ghost use Rattle.blk_object.specs.Calls.{UndamagedWhere};
 ghost use Rattle.blk_print.specs.PrintCalls.{SaysText, SaysPart};
 
 use crate::range_printing::{StreamRange, print_range, print_ranges};

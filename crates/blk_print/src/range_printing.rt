@@ -2,14 +2,13 @@
 ghost use Rattle.std.specs.Prelude.{◌≡◌, ◌≤◌, ◌<◌, ◌+◌, ◌^◌, ◌++◌, IsTrue, OnErr, OnOk, codes, length};
 ghost use Rattle.hex.specs.Hex.{encode_lower};
 ghost use Rattle.spec_image.specs.Told.{ReadsOnly};
-ghost use Rattle.blk_io.specs.Faults.{IfDamaged, IfDevice};
+ghost use Rattle.blk_io.specs.Faults.{IfDamaged, IfDevice, OpaqueIfDamaged, UndamagedWhere};
 ghost use Rattle.blk_io.specs.Streams.{GoesOn};
 ghost use Rattle.blk_disk.specs.Tables.{is_record_among};
 ghost use Rattle.blk_script.specs.Spelling.{data_text, number_text};
 ghost use Rattle.blk_object.specs.FailedChecks.{IsFailedCheck};
 ghost use Rattle.blk_print.specs.RangePrinting.{HasBytes, ForText, ForRanges, WhereRanges};
 ghost use Rattle.blk_evict.specs.RoomPrinting.{FailsWhereItRose, PrintsUnlessFailed};
-ghost use Rattle.blk_object.specs.Calls.{OpaqueIfDamaged, UndamagedWhere};
 ghost use Rattle.blk_print.specs.PrintCalls.{SaysText, SaysPart, reply_with};
 
 use blk_addr::Addr;

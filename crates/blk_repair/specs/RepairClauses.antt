@@ -1,13 +1,11 @@
 -- Clauses of recovery: what its steps do, on the image before them or on the one with which recovery began.
-use Rattle.std.specs.Prelude.{ℕ, ◌≡◌, Bool, List, None, Result}
+use Rattle.std.specs.Prelude.{ℕ, Bool, List}
 use Rattle.std.specs.Option.{ForSome}
 use Rattle.spec_image.specs.Image.{Image, Index, byte}
 use Rattle.spec_image.specs.Steps.{TrailStep}
 use Rattle.spec_image.specs.Told.{Told, Applies, AppliesPrefix, Passes, Stays}
 use Rattle.spec_format.specs.Headers.{this_id_of}
 use Rattle.spec_format.specs.Session.{session_after}
-use Rattle.blk_io.specs.declared.fault.Fault.{Fault}
-use Rattle.blk_io.specs.Faults.{IfDamaged}
 use Rattle.blk_addr.specs.declared.claim_set.Claims.{Claims}
 use Rattle.blk_disk.specs.declared.tables.BlockFiles.{BlockFiles}
 use Rattle.blk_scan.specs.declared.scan.Scan.{Scan}
@@ -54,10 +52,6 @@ WhereEnded told old new walked kept P = ForSome (told old).files (λ from. (entr
 abbrev pub WhereNextBucket : {S : Type 0} → (told : S → Told) → (old new : S) → (bucket front : ℕ) → (records : List ℕ) → (whole : Bool) → StepClause → Type 0
 WhereNextBucket told old new bucket front records whole P =
     ForSome (told old).files (λ from. (entry : Image) → IsNextBucket entry bucket front records whole from → P from (told old) (told new))
-
--- where P holds of the image of an observable folder, the answer is no failed check
-abbrev pub NoDamageWhere : {A : Type 0} → Result A Fault → Told → (Image → Type 0) → Type 0
-NoDamageWhere result told P = ForSome told.files P → IfDamaged result (λ _. told.files ≡ None)
 
 -- The steps.
 

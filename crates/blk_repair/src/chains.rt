@@ -2,13 +2,13 @@
 ghost use Rattle.std.specs.Prelude.{◌≡◌, ◌≤◌, OnOk, All, true};
 ghost use Rattle.std.specs.Option.{ForSome};
 ghost use Rattle.spec_image.specs.Told.{MakesPartOf, Rises, MayWrite};
-ghost use Rattle.blk_io.specs.Faults.{IfDamaged, IfDevice};
+ghost use Rattle.blk_io.specs.Faults.{IfDamaged, IfDevice, UndamagedWhere};
 ghost use Rattle.blk_disk.specs.Tables.{is_record_among};
 ghost use Rattle.blk_disk.specs.Open.{IsOpen};
 ghost use Rattle.law_recovery.specs.ChainRepair.{chain_steps, next_words_steps};
 ghost use Rattle.blk_repair.specs.Damages.{AllCheck, IsFailedLink};
 ghost use Rattle.blk_repair.specs.Chains.{IsBucketWord, KeepsOtherBuckets};
-ghost use Rattle.blk_repair.specs.RepairClauses.{DoesAll, DoesPrefix, NoDamageWhere, OnImage, Where};
+ghost use Rattle.blk_repair.specs.RepairClauses.{DoesAll, DoesPrefix, OnImage, Where};
 
 use crate::links::{first_word, set_front, set_next};
 use blk_addr::Addr;
@@ -37,7 +37,7 @@ pub(crate) fn mend_chain<F: Folder>(
 
     // An observable folder reports corruption only where one of the records has a wrong checksum.
     ensures damaged { IfDamaged result (IsFailedLink files.now (F.told folder.new)) }
-    ensures untold { NoDamageWhere result (F.told folder.old) (AllCheck records.now) }
+    ensures untold { UndamagedWhere result (F.told folder.old) (AllCheck records.now) }
 {
     set_front(folder, bucket, front, first_word(records))?;
     link(folder, files, records)
@@ -52,7 +52,7 @@ fn link<F: Folder>(folder: &mut F, files: &BlockFiles, records: &[Addr]) -> Resu
     ensures damaged { IfDamaged result (IsFailedLink files.now (F.told folder.new)) }
 
     // An observable folder reports corruption only where one of the records has a wrong checksum.
-    ensures untold { NoDamageWhere result (F.told folder.old) (AllCheck records.now) }
+    ensures untold { UndamagedWhere result (F.told folder.old) (AllCheck records.now) }
     ensures later { F.faults folder.old ≤ F.faults folder.new }
     ensures device { IfDevice result (Rises (F.faults folder.old) (F.faults folder.new)) }
 {

@@ -8,13 +8,13 @@ ghost use Rattle.spec_format.specs.Headers.{HasWholeIndex, place_of_bucket};
 ghost use Rattle.spec_format.specs.Sealed.{RecordChecks};
 ghost use Rattle.spec_folder.specs.View.{store_of};
 ghost use Rattle.spec_folder.specs.ListView.{first_or};
-ghost use Rattle.blk_io.specs.Faults.{IfDamaged, IfDevice};
+ghost use Rattle.blk_io.specs.Faults.{IfDamaged, IfDevice, UndamagedWhere};
 ghost use Rattle.blk_disk.specs.Tables.{is_record_among};
 ghost use Rattle.blk_disk.specs.Open.{IsOpen};
 ghost use Rattle.law_recovery.specs.ChainRepair.{bucket_steps, next_steps};
 ghost use Rattle.blk_repair.specs.Chains.{IsBucketWord};
 ghost use Rattle.blk_repair.specs.Damages.{IsFailedLink};
-ghost use Rattle.blk_repair.specs.RepairClauses.{DoesAll, DoesPrefix, NoDamageWhere, OnImage, Where};
+ghost use Rattle.blk_repair.specs.RepairClauses.{DoesAll, DoesPrefix, OnImage, Where};
 
 use blk_addr::Addr;
 use blk_disk::BlockFiles;
@@ -69,7 +69,7 @@ pub(crate) fn set_next<F: Folder>(
     ensures steps { OnOk result (OnImage F.told folder.old folder.new (DoesAll (next_steps entry word))) }
     ensures prefix { MakesPartOf (F.told folder.old) (F.told folder.new) (λ from. next_steps entry word from) }
     ensures damaged { IfDamaged result (IsFailedLink files.now (F.told folder.new)) }
-    ensures untold { NoDamageWhere result (F.told folder.old) (RecordChecks entry) }
+    ensures untold { UndamagedWhere result (F.told folder.old) (RecordChecks entry) }
     ensures later { F.faults folder.old ≤ F.faults folder.new }
     ensures device { IfDevice result (Rises (F.faults folder.old) (F.faults folder.new)) }
 {

@@ -2,14 +2,14 @@
 ghost use Rattle.std.specs.Prelude.{◌≡◌, ◌≤◌, OnOk, All, true};
 ghost use Rattle.std.specs.Option.{ForSome};
 ghost use Rattle.spec_image.specs.Told.{MakesPartOf, Rises};
-ghost use Rattle.blk_io.specs.Faults.{IfDamaged, IfDevice};
+ghost use Rattle.blk_io.specs.Faults.{IfDamaged, IfDevice, UndamagedWhere};
 ghost use Rattle.blk_disk.specs.Open.{IsOpen};
 ghost use Rattle.blk_disk.specs.Tables.{is_node_among};
 ghost use Rattle.blk_lru.specs.Lists.{last_node_of};
 ghost use Rattle.law_recovery.specs.ListRepair.{HoldsTheSame, IsListMended};
 ghost use Rattle.blk_repair.specs.Damages.{IsListRepairDamage};
 ghost use Rattle.blk_repair.specs.Removals.{IsListScanned, mending_steps};
-ghost use Rattle.blk_repair.specs.RepairClauses.{DoesAll, HoldsAlong, Leaves, NoDamageWhere, OnImage, Where};
+ghost use Rattle.blk_repair.specs.RepairClauses.{DoesAll, HoldsAlong, Leaves, OnImage, Where};
 
 use crate::removals::remove_others;
 use blk_addr::Addr;
@@ -42,7 +42,7 @@ pub fn mend_list<F: Folder>(
 
     // An observable folder reports corruption only where these aren't its walked and kept nodes.
     ensures damaged { IfDamaged result (IsListRepairDamage files.now (F.told folder.new)) }
-    ensures untold { NoDamageWhere result (F.told folder.old) (IsListScanned walked.now kept.now) }
+    ensures untold { UndamagedWhere result (F.told folder.old) (IsListScanned walked.now kept.now) }
 
     ensures later { F.faults folder.old ≤ F.faults folder.new }
     ensures device { IfDevice result (Rises (F.faults folder.old) (F.faults folder.new)) }

@@ -3,13 +3,13 @@ ghost use Rattle.std.specs.Prelude.{◌≡◌, ◌≤◌, OnOk, All, drop, true}
 ghost use Rattle.std.specs.Option.{ForSome};
 ghost use Rattle.spec_image.specs.Image.{Image};
 ghost use Rattle.spec_image.specs.Told.{MakesPartOf, Rises};
-ghost use Rattle.blk_io.specs.Faults.{IfDamaged, IfDevice};
+ghost use Rattle.blk_io.specs.Faults.{IfDamaged, IfDevice, UndamagedWhere};
 ghost use Rattle.blk_disk.specs.Open.{IsOpen};
 ghost use Rattle.blk_disk.specs.Tables.{is_node_among};
 ghost use Rattle.law_recovery.specs.ListRepair.{HoldsTheSame, IsListMended, all_but, is_first, removal_steps};
 ghost use Rattle.blk_repair.specs.Damages.{IsRemovalsDamage};
 ghost use Rattle.blk_repair.specs.Removals.{IsEndedList};
-ghost use Rattle.blk_repair.specs.RepairClauses.{DoesAll, HoldsAlong, Leaves, NoDamageWhere, OnImage, WhereEnded};
+ghost use Rattle.blk_repair.specs.RepairClauses.{DoesAll, HoldsAlong, Leaves, OnImage, WhereEnded};
 
 use blk_addr::Addr;
 use blk_disk::BlockFiles;
@@ -40,7 +40,7 @@ pub fn remove_others<F: Folder>(
 
     // An observable folder reports corruption only where the list wasn't ended with the walked nodes.
     ensures damaged { IfDamaged result (IsRemovalsDamage files.now (F.told folder.new)) }
-    ensures untold { NoDamageWhere result (F.told folder.old) (λ from. (entry : Image) × IsEndedList entry walked.now kept.now from) }
+    ensures untold { UndamagedWhere result (F.told folder.old) (λ from. (entry : Image) × IsEndedList entry walked.now kept.now from) }
 
     ensures later { F.faults folder.old ≤ F.faults folder.new }
     ensures device { IfDevice result (Rises (F.faults folder.old) (F.faults folder.new)) }

@@ -4,7 +4,7 @@ ghost use Rattle.std.specs.Option.{ForSome};
 ghost use Rattle.spec_image.specs.Image.{Image};
 ghost use Rattle.spec_image.specs.Told.{MayWrite};
 ghost use Rattle.spec_format.specs.Session.{session_after};
-ghost use Rattle.blk_io.specs.Faults.{IfDamaged, IfDevice};
+ghost use Rattle.blk_io.specs.Faults.{IfDamaged, IfDevice, UndamagedWhere};
 ghost use Rattle.blk_disk.specs.Open.{IsOpen};
 ghost use Rattle.blk_disk.specs.Tables.{all_files, files_of};
 ghost use Rattle.blk_alloc.specs.Extending.{KeepsStanding};
@@ -20,7 +20,7 @@ ghost use Rattle.blk_repair.specs.Damages.{IsChainsRepairDamage};
 ghost use Rattle.blk_repair.specs.Deletions.{DeletesOthers};
 ghost use Rattle.blk_repair.specs.Parts.{AppliesOf};
 ghost use Rattle.blk_repair.specs.Repair.{AreBucketsScanned, AreLinksMended, AreOnlyKeptLeft, AreOthersDeleted, IsBehindRepairDamage, IsLinksRepairDamage, IsNextFinished, IsRepairDamage, IsRepairable, IsRepaired, IsRepairedFor, IsRestRepairDamage, MendsFiles, MendsLinks, MendsRest};
-ghost use Rattle.blk_repair.specs.RepairClauses.{DoesAll, EndsOrStopsRepair, EndsRepair, ForEntry, Leaves, NoDamageWhere, OnImage, RepairsAll, RepairsBehind, SetsOnlyWords, StaysWhere, StaysWhereBoth, StopsWith, Where, WhereRebuilt, next_id_of};
+ghost use Rattle.blk_repair.specs.RepairClauses.{DoesAll, EndsOrStopsRepair, EndsRepair, ForEntry, Leaves, OnImage, RepairsAll, RepairsBehind, SetsOnlyWords, StaysWhere, StaysWhereBoth, StopsWith, Where, WhereRebuilt, next_id_of};
 
 use crate::counters::mend_index;
 use crate::deletions::{delete_unclaimed, delete_unlinked};
@@ -69,7 +69,7 @@ pub fn repair<F: Folder>(f: &mut F, files: &mut BlockFiles, scan: &Scan) -> Resu
 
     // An observable folder reports corruption only where the scan isn't its own.
     ensures damaged { IfDamaged result (IsRepairDamage files.new (F.told f.new)) }
-    ensures untold { NoDamageWhere result (F.told f.old) (IsRepairable scan.now) }
+    ensures untold { UndamagedWhere result (F.told f.old) (IsRepairable scan.now) }
 
     ensures writes { MayWrite F.told F.faults f.old f.new (IfDevice result) }
 {
@@ -106,7 +106,7 @@ fn mend_all<F: Folder>(
     ensures is_open { ForSome (F.told folder.new).files (IsOpen files.new) }
     ensures clean { OnOk result (Where F.told folder.old folder.new (IsRepairable scan.now) (λ from. SetsOnlyWords scan.now this_id from from)) }
     ensures damaged { IfDamaged result (IsRepairDamage files.new (F.told folder.new)) }
-    ensures untold { NoDamageWhere result (F.told folder.old) (IsRepairable scan.now) }
+    ensures untold { UndamagedWhere result (F.told folder.old) (IsRepairable scan.now) }
     ensures writes { MayWrite F.told F.faults folder.old folder.new (IfDevice result) }
 {
     mend_links(folder, files, scan)?;
@@ -132,7 +132,7 @@ fn mend_behind<F: Folder>(
     ensures is_open { ForSome (F.told folder.new).files (IsOpen files.new) }
     ensures clean { OnOk result (ForEntry F.told folder.old folder.new (AreLinksMended scan.now) (SetsOnlyWords scan.now this_id)) }
     ensures damaged { IfDamaged result (IsBehindRepairDamage files.new (F.told folder.new)) }
-    ensures untold { NoDamageWhere result (F.told folder.old) (λ from. (entry : Image) × AreLinksMended scan.now entry from) }
+    ensures untold { UndamagedWhere result (F.told folder.old) (λ from. (entry : Image) × AreLinksMended scan.now entry from) }
     ensures writes { MayWrite F.told F.faults folder.old folder.new (IfDevice result) }
 {
     mend_store(folder, files, scan.claims())?;
@@ -191,7 +191,7 @@ fn mend_links<F: Folder>(folder: &mut F, files: &BlockFiles, scan: &Scan) -> Res
     ensures is_open { ForSome (F.told folder.new).files (IsOpen files.now) }
     ensures clean { OnOk result (Where F.told folder.old folder.new (IsRepairable scan.now) (StaysWhere HasMendedLinks)) }
     ensures damaged { IfDamaged result (IsLinksRepairDamage files.now (F.told folder.new)) }
-    ensures untold { NoDamageWhere result (F.told folder.old) (IsRepairable scan.now) }
+    ensures untold { UndamagedWhere result (F.told folder.old) (IsRepairable scan.now) }
     ensures writes { MayWrite F.told F.faults folder.old folder.new (IfDevice result) }
 {
     mend_list(folder, files, scan.walked_nodes(), scan.kept_nodes())?;
@@ -208,7 +208,7 @@ fn mend_buckets<F: Folder>(folder: &mut F, files: &BlockFiles, scan: &Scan) -> R
     ensures is_open { ForSome (F.told folder.new).files (IsOpen files.now) }
     ensures clean { OnOk result (Where F.told folder.old folder.new (AreBucketsScanned scan.now.chains) (StaysWhere HasMendedLinks)) }
     ensures damaged { IfDamaged result (IsChainsRepairDamage files.now (F.told folder.new)) }
-    ensures untold { NoDamageWhere result (F.told folder.old) (AreBucketsScanned scan.now.chains) }
+    ensures untold { UndamagedWhere result (F.told folder.old) (AreBucketsScanned scan.now.chains) }
     ensures writes { MayWrite F.told F.faults folder.old folder.new (IfDevice result) }
 {
     match scan.chains() {
@@ -239,7 +239,7 @@ fn mend_rest<F: Folder>(
     ensures is_open { ForSome (F.told folder.new).files (IsOpen files.now) }
     ensures clean { OnOk result (ForEntry F.told folder.old folder.new (IsNextFinished scan.now) (SetsOnlyWords scan.now this_id)) }
     ensures damaged { IfDamaged result (IsRestRepairDamage files.now (F.told folder.new)) }
-    ensures untold { NoDamageWhere result (F.told folder.old) (λ from. (entry : Image) × IsNextFinished scan.now entry from) }
+    ensures untold { UndamagedWhere result (F.told folder.old) (λ from. (entry : Image) × IsNextFinished scan.now entry from) }
     ensures writes { MayWrite F.told F.faults folder.old folder.new (IfDevice result) }
 {
     seal_records(folder, files, scan.bare())?;

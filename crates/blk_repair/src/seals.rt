@@ -3,11 +3,11 @@ ghost use Rattle.std.specs.Prelude.{◌≤◌, OnOk, All};
 ghost use Rattle.std.specs.Option.{ForSome};
 ghost use Rattle.spec_image.specs.Image.{Image};
 ghost use Rattle.spec_image.specs.Told.{MakesPartOf, Rises};
-ghost use Rattle.blk_io.specs.Faults.{IfDamaged, IfDevice};
+ghost use Rattle.blk_io.specs.Faults.{IfDamaged, IfDevice, UndamagedWhere};
 ghost use Rattle.blk_disk.specs.Open.{IsOpen};
 ghost use Rattle.blk_audit.specs.Sealable.{CanBeSealed};
 ghost use Rattle.blk_repair.specs.Seals.{AreSealedNow, HasMendedLinksOf, IsNextSealed, IsWrongSealed, seals_steps};
-ghost use Rattle.blk_repair.specs.RepairClauses.{DoesAll, HoldsAlong, Leaves, NoDamageWhere, OnImage, WhereSealed};
+ghost use Rattle.blk_repair.specs.RepairClauses.{DoesAll, HoldsAlong, Leaves, OnImage, WhereSealed};
 
 use blk_addr::Addr;
 use blk_disk::BlockFiles;
@@ -36,7 +36,7 @@ pub fn seal_records<F: Folder>(
 
     // An observable folder reports corruption only where not all of these nodes and records are kept.
     ensures damaged { IfDamaged result (IsWrongSealed files.now (F.told folder.new)) }
-    ensures untold { NoDamageWhere result (F.told folder.old) (λ from. (entry : Image) × IsNextSealed entry records.now from) }
+    ensures untold { UndamagedWhere result (F.told folder.old) (λ from. (entry : Image) × IsNextSealed entry records.now from) }
 
     ensures later { F.faults folder.old ≤ F.faults folder.new }
     ensures device { IfDevice result (Rises (F.faults folder.old) (F.faults folder.new)) }

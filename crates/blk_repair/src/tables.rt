@@ -3,7 +3,7 @@ ghost use Rattle.std.specs.Prelude.{◌≡◌, ◌<◌, IfOk, OnOk, All, true, f
 ghost use Rattle.std.specs.Option.{ForSome};
 ghost use Rattle.spec_image.specs.Told.{MayWrite, ReadsOnly};
 ghost use Rattle.spec_format.specs.Headers.{HasWholeIndex, table_length};
-ghost use Rattle.blk_io.specs.Faults.{IfDamaged, IfDevice};
+ghost use Rattle.blk_io.specs.Faults.{IfDamaged, IfDevice, UndamagedWhere};
 ghost use Rattle.blk_disk.specs.Open.{IsOpen};
 ghost use Rattle.blk_disk.specs.Tables.{is_record_among};
 ghost use Rattle.law_recovery.specs.ChainRepair.{AreChainsMended, chain_repair_steps, chain_steps};
@@ -13,7 +13,7 @@ ghost use Rattle.blk_audit.specs.BucketEnds.{AreEnds, records_of as records_amon
 ghost use Rattle.blk_audit.specs.Faults.{IsTableDamage};
 ghost use Rattle.blk_repair.specs.Chains.{AreChainsScanned, KeepsOtherBuckets, ReadsOnWords};
 ghost use Rattle.blk_repair.specs.Damages.{AllCheck, IsChainsRepairDamage, IsFailedLink};
-ghost use Rattle.blk_repair.specs.RepairClauses.{DoesAll, DoesPrefix, HoldsAlong, Leaves, NoDamageWhere, Where, WhereNextBucket};
+ghost use Rattle.blk_repair.specs.RepairClauses.{DoesAll, DoesPrefix, HoldsAlong, Leaves, Where, WhereNextBucket};
 
 use crate::chains::mend_chain;
 use blk_addr::Addr;
@@ -51,7 +51,7 @@ pub fn mend_chains<F: Folder>(
 
     // An observable folder reports corruption only where these aren't its kept records.
     ensures damaged { IfDamaged result (IsChainsRepairDamage files.now (F.told folder.new)) }
-    ensures untold { NoDamageWhere result (F.told folder.old) (AreChainsScanned records.now ends.now whole.now) }
+    ensures untold { UndamagedWhere result (F.told folder.old) (AreChainsScanned records.now ends.now whole.now) }
 {
     let mut table = [0u32; BUCKETS_OF_PIECE];
     let mut read = 0;
@@ -85,7 +85,7 @@ fn read_piece<F: Folder>(
     ensures reached { IfOk result (λ now. whole ≡ false → bucket < now) }
     ensures reads { ReadsOnly F.told F.faults folder.old folder.new (IfDevice result) }
     ensures damaged { IfDamaged result (IsTableDamage (F.told folder.new)) }
-    ensures untold { NoDamageWhere result (F.told folder.old) HasWholeIndex }
+    ensures untold { UndamagedWhere result (F.told folder.old) HasWholeIndex }
 {
     if whole || u32::from(bucket) < read {
         return Ok(read);
@@ -112,7 +112,7 @@ fn mend_bucket<F: Folder>(
     ensures is_open { ForSome (F.told folder.new).files (IsOpen files.now) }
     ensures writes { MayWrite F.told F.faults folder.old folder.new (IfDevice result) }
     ensures damaged { IfDamaged result (IsFailedLink files.now (F.told folder.new)) }
-    ensures untold { NoDamageWhere result (F.told folder.old) (AllCheck records.now) }
+    ensures untold { UndamagedWhere result (F.told folder.old) (AllCheck records.now) }
 {
     if whole {
         return Ok(());

@@ -4,12 +4,11 @@ use Rattle.std.specs.Int.{cast_unsigned, w64}
 use Rattle.std.specs.List.{FoldsTo}
 use Rattle.std.specs.Option.{ForSome}
 use Rattle.std.specs.declared.option.Option.{Option}
-use Rattle.std.specs.declared.option.Option.TheVariants.{None}
 use Rattle.spec_image.specs.Footprint.{SameOutside}
 use Rattle.spec_image.specs.Image.{Image}
-use Rattle.spec_image.specs.Told.{Passes, Told}
+use Rattle.spec_image.specs.Told.{ForTold, Passes, Told}
 use Rattle.blk_io.specs.declared.fault.Fault.{Fault}
-use Rattle.blk_io.specs.Faults.{IfDamaged}
+use Rattle.blk_io.specs.Faults.{OpaqueIfDamaged}
 use Rattle.blk_model.specs.Effects.{doomed, existing_parts}
 use Rattle.blk_model.specs.Holding.{rest}
 use Rattle.blk_model.specs.Items.{Item, main, part}
@@ -63,23 +62,11 @@ use Rattle.blk_sparse.specs.Writing.{AreInOrder, ForEachGrowingOfKey, IsPieceInO
 
 -- Failed checks and crashes.
 
--- where the answer is a failed check, the folder is opaque
-abbrev pub OpaqueIfDamaged : {A : Type 0} → Result A Fault → Told → Type 0
-OpaqueIfDamaged result told = IfDamaged result (λ _. told.files ≡ None)
-
--- where P holds of an observable folder, the answer is no failed check
-abbrev pub UndamagedWhere : {A : Type 0} → Result A Fault → Told → (Image → Type 0) → Type 0
-UndamagedWhere result told P = ForSome told.files P → OpaqueIfDamaged result told
-
 -- at each word of the steps that were made, the durable contents of the state are recovered
 abbrev pub Recovers : (old new : Told) → State → Type 0
 Recovers old new state = Passes old new (Finds (rest state))
 
 -- Which objects.
-
--- P holds of each object that `each` names in an observable folder
-abbrev pub ForTold : {A : Type 1} → Told → (each : Image → A → Type 0) → (P : Image → A) → Type 0
-ForTold told each P = ForSome told.files (λ from. each from (P from))
 
 -- a clause on an object, with its number, in a kept state, and the layout and the unlinked addresses with which it is kept
 abbrev pub ObjectClause : Type 1

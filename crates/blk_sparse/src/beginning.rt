@@ -2,17 +2,17 @@
 ghost use Rattle.std.specs.Prelude.{◌≡◌, ◌≤◌, ◌<◌, IfOk, IsTrue, OnOk, length};
 ghost use Rattle.std.specs.Int.{cast_unsigned, w64};
 ghost use Rattle.std.specs.Option.{ForSome};
-ghost use Rattle.spec_image.specs.Told.{MayWrite, ReadsOnly};
+ghost use Rattle.spec_image.specs.Told.{MayWrite, ReadsOnly, ForTold};
 ghost use Rattle.blk_model.specs.Sizes.{longest_key, signatures};
 ghost use Rattle.spec_format.specs.Address.{blocks_256, kind_of};
 ghost use Rattle.spec_format.specs.SparseIndex.{parent_index_length};
 ghost use Rattle.spec_folder.specs.View.{entry_at};
-ghost use Rattle.blk_io.specs.Faults.{IfDamaged, IfDevice};
+ghost use Rattle.blk_io.specs.Faults.{IfDamaged, IfDevice, OpaqueIfDamaged, UndamagedWhere};
 ghost use Rattle.blk_disk.specs.Open.{IsOpen};
 ghost use Rattle.blk_disk.specs.Tables.{Agrees, stands_among};
 ghost use Rattle.blk_alloc.specs.Extending.{KeepsStanding};
 ghost use Rattle.blk_object.specs.FailedChecks.{IsFailedCheck};
-ghost use Rattle.blk_sparse.specs.Clauses.{BecomesParent, BecomesParentOf, DurableAtNode, DurableOf, ForTold, MarksParent, OpaqueIfDamaged, Recovers, UndamagedAtNode, UndamagedWhere};
+ghost use Rattle.blk_sparse.specs.Clauses.{BecomesParent, BecomesParentOf, DurableAtNode, DurableOf, MarksParent, Recovers, UndamagedAtNode};
 ghost use Rattle.blk_sparse.specs.Beginning.{ForEachPlainWith, ForEachWithIndex, HasIndex, HasParentLength};
 ghost use Rattle.blk_sparse.specs.SparseObjects.{ForEachPlain};
 

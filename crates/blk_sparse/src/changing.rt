@@ -1,16 +1,16 @@
 // A part that exists gets a piece.
 ghost use Rattle.std.specs.Prelude.{◌≡◌, ◌≤◌, ◌<◌, ◌+◌, IfOk, IsTrue, None, OnOk, length};
 ghost use Rattle.std.specs.Option.{ForSome};
-ghost use Rattle.spec_image.specs.Told.{MayWrite, ReadsOnly};
+ghost use Rattle.spec_image.specs.Told.{MayWrite, ReadsOnly, ForTold};
 ghost use Rattle.blk_model.specs.Sizes.{part_size};
 ghost use Rattle.spec_format.specs.Address.{blocks_256, kind_of};
-ghost use Rattle.blk_io.specs.Faults.{IfDamaged, IfDevice};
+ghost use Rattle.blk_io.specs.Faults.{IfDamaged, IfDevice, UndamagedWhere};
 ghost use Rattle.blk_disk.specs.Open.{IsOpen};
 ghost use Rattle.blk_disk.specs.Tables.{Agrees, stands_among};
 ghost use Rattle.blk_alloc.specs.Extending.{KeepsStanding};
 ghost use Rattle.blk_object.specs.FailedChecks.{IsFailedCheck};
 ghost use Rattle.blk_ranges.specs.PartMaps.{IsPartMap, index_of};
-ghost use Rattle.blk_sparse.specs.Clauses.{ChangesPart, DurableAtPart, ForChange, ForPartIndex, ForTold, OrdersInPart, UndamagedAtPart, UndamagedWhere, WritesInPart};
+ghost use Rattle.blk_sparse.specs.Clauses.{ChangesPart, DurableAtPart, ForChange, ForPartIndex, OrdersInPart, UndamagedAtPart, WritesInPart};
 ghost use Rattle.blk_sparse.specs.Changing.{ForEachToBeChanged, NotesWrite, LoadsAsPart};
 ghost use Rattle.blk_sparse.specs.SparseObjects.{ForEachPartThere};
 

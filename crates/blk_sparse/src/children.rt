@@ -3,15 +3,15 @@ ghost use Rattle.std.specs.Prelude.{◌≡◌, ◌+◌, ◌≤◌, ◌<◌, ℕ,
 ghost use Rattle.std.specs.Int.{cast_unsigned, w64};
 ghost use Rattle.std.specs.List.{FoldsTo};
 ghost use Rattle.std.specs.Option.{ForSome};
-ghost use Rattle.spec_image.specs.Told.{MayWrite, ReadsOnly};
+ghost use Rattle.spec_image.specs.Told.{MayWrite, ReadsOnly, ForTold};
 ghost use Rattle.blk_model.specs.Sizes.{longest_key, signatures};
 ghost use Rattle.spec_format.specs.Address.{blocks_256, kind_of};
 ghost use Rattle.spec_format.specs.Names.{longest_name};
-ghost use Rattle.blk_io.specs.Faults.{IfDamaged, IfDevice};
+ghost use Rattle.blk_io.specs.Faults.{IfDamaged, IfDevice, UndamagedWhere};
 ghost use Rattle.blk_disk.specs.Open.{IsOpen};
 ghost use Rattle.blk_disk.specs.Tables.{Agrees, stands_among};
 ghost use Rattle.blk_object.specs.FailedChecks.{IsFailedCheck};
-ghost use Rattle.blk_sparse.specs.Clauses.{AllOutOfIt, BeginsLeftOfIt, CallsLeftOfIt, CountsLeftOfIt, DoomedLeft, ForEachPartlyOut, ForParentIndex, ForTold, HasSomeKey, IsKeyAt, SessionStaysLeft, UndamagedLeft, UndamagedWhere, UnlinkedStay};
+ghost use Rattle.blk_sparse.specs.Clauses.{AllOutOfIt, BeginsLeftOfIt, CallsLeftOfIt, CountsLeftOfIt, DoomedLeft, ForEachPartlyOut, ForParentIndex, HasSomeKey, IsKeyAt, SessionStaysLeft, UndamagedLeft, UnlinkedStay};
 ghost use Rattle.blk_sparse.specs.Children.{HasParentKey};
 ghost use Rattle.blk_sparse.specs.Dropping.{HasNoBit};
 ghost use Rattle.blk_sparse.specs.Parents.{LoadsAsParent};

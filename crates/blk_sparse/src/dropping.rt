@@ -3,7 +3,7 @@ ghost use Rattle.std.specs.Prelude.{◌≡◌, ◌≤◌, ◌<◌, ◌^◌, ℕ,
 ghost use Rattle.std.specs.Int.{cast_unsigned, w64};
 ghost use Rattle.std.specs.List.{FoldsTo};
 ghost use Rattle.std.specs.Option.{ForSome};
-ghost use Rattle.spec_image.specs.Told.{MayWrite};
+ghost use Rattle.spec_image.specs.Told.{MayWrite, ForTold};
 ghost use Rattle.blk_model.specs.Items.{part};
 ghost use Rattle.blk_model.specs.Sizes.{longest_key, part_count, signatures};
 ghost use Rattle.spec_format.specs.Address.{blocks_256, kind_of};
@@ -14,7 +14,7 @@ ghost use Rattle.blk_disk.specs.Open.{IsOpen};
 ghost use Rattle.blk_disk.specs.Tables.{is_node_among, stands_among};
 ghost use Rattle.blk_object.specs.FailedChecks.{IsFailedCheck};
 ghost use Rattle.blk_object.specs.ListedParts.{SaysPart};
-ghost use Rattle.blk_sparse.specs.Clauses.{AllOut, BeginsLeft, CallsLeft, DoomedLeft, ForEachBehindOf, ForEachPartOf, ForKeyLeft, ForTold, LeftGone, PartOut, SessionStaysLeft, UndamagedLeft, UnlinkedStay};
+ghost use Rattle.blk_sparse.specs.Clauses.{AllOut, BeginsLeft, CallsLeft, DoomedLeft, ForEachBehindOf, ForEachPartOf, ForKeyLeft, LeftGone, PartOut, SessionStaysLeft, UndamagedLeft, UnlinkedStay};
 ghost use Rattle.blk_sparse.specs.Dropping.{ForEachBehind, ForEachIndexed, ForEachPartLeft, IsDropOfNext};
 
 use blk_addr::Addr;

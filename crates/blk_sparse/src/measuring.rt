@@ -2,17 +2,17 @@
 ghost use Rattle.std.specs.Prelude.{◌≡◌, ◌≤◌, ◌<◌, ◌+◌, ◌^◌, [], IfOk, IsTrue, None, length};
 ghost use Rattle.std.specs.Int.{cast_unsigned, w64};
 ghost use Rattle.std.specs.Option.{ForSome};
-ghost use Rattle.spec_image.specs.Told.{ReadsOnly};
+ghost use Rattle.spec_image.specs.Told.{ReadsOnly, ForTold};
 ghost use Rattle.blk_model.specs.Sizes.{blocks_index_charge, largest_offset, longest_key, part_count, part_size, signatures};
 ghost use Rattle.spec_format.specs.Address.{blocks_256, kind_of};
 ghost use Rattle.blk_model.specs.State.{Object};
 ghost use Rattle.spec_format.specs.Names.{child_name, longest_name};
 ghost use Rattle.spec_folder.specs.Layout.{Layout};
-ghost use Rattle.blk_io.specs.Faults.{IfDamaged, IfDevice};
+ghost use Rattle.blk_io.specs.Faults.{IfDamaged, IfDevice, OpaqueIfDamaged};
 ghost use Rattle.blk_disk.specs.Open.{IsOpen};
 ghost use Rattle.blk_disk.specs.Tables.{stands_among};
 ghost use Rattle.blk_object.specs.FailedChecks.{IsFailedCheck};
-ghost use Rattle.blk_sparse.specs.Clauses.{ForEachKeyed, ForEachMeasured, ForTold, HasMeasure, HasPieceMeasure, Measures, MeasuresPart, MeasuresPlain, OpaqueIfDamaged, Undamaged};
+ghost use Rattle.blk_sparse.specs.Clauses.{ForEachKeyed, ForEachMeasured, HasMeasure, HasPieceMeasure, Measures, MeasuresPart, MeasuresPlain, Undamaged};
 ghost use Rattle.blk_sparse.specs.Measuring.{ForEachPartMeasured, ForEachPlainMeasured, IsMeasured};
 
 use crate::children::{Parent, read_key};

@@ -2,7 +2,7 @@
 ghost use Rattle.std.specs.Prelude.{◌≡◌, ◌+◌, ◌≤◌, ◌<◌, [], ◌∷◌, IfOk, IsTrue, OnOk, length, true};
 ghost use Rattle.std.specs.Int.{cast_unsigned, w64};
 ghost use Rattle.std.specs.Option.{ForSome};
-ghost use Rattle.spec_image.specs.Told.{Passes, MayWrite, ReadsOnly};
+ghost use Rattle.spec_image.specs.Told.{Passes, MayWrite, ReadsOnly, ForTold};
 ghost use Rattle.blk_model.specs.Bytes.{overwritten};
 ghost use Rattle.blk_model.specs.Sizes.{longest_key, part_count, part_size, signatures};
 ghost use Rattle.spec_format.specs.Address.{blocks_256, is_address, kind_of};
@@ -10,7 +10,7 @@ ghost use Rattle.spec_format.specs.Names.{longest_name};
 ghost use Rattle.spec_format.specs.SparseIndex.{parent_index_length, part_index_length};
 ghost use Rattle.spec_format.specs.Storage as storage;
 ghost use Rattle.spec_folder.specs.Entries.{most_stream_bytes};
-ghost use Rattle.blk_io.specs.Faults.{IfDamaged, IfDevice};
+ghost use Rattle.blk_io.specs.Faults.{IfDamaged, IfDevice, OpaqueIfDamaged, UndamagedWhere};
 ghost use Rattle.blk_disk.specs.Open.{IsOpen};
 ghost use Rattle.blk_disk.specs.Tables.{Agrees, is_node_among, is_record_among, stands_among};
 ghost use Rattle.blk_entry.specs.Keys.{stores};
@@ -20,7 +20,7 @@ ghost use Rattle.blk_stream.specs.Streams.{address_word};
 ghost use Rattle.law_state.specs.Changes.{StillFinds};
 ghost use Rattle.blk_object.specs.FailedChecks.{IsFailedCheck};
 ghost use Rattle.blk_object.specs.Making.{LeavesRoom, Takes};
-ghost use Rattle.blk_sparse.specs.Clauses.{DurableAtNode, DurableListing, ForEachWithout, ForNewPart, ForTold, IsEntryPlace, IsNodePlace, ListsPart, OpaqueIfDamaged, OrdersNewPart, UndamagedAtNode, UndamagedWhere, WhereSpace, WritesNewPart};
+ghost use Rattle.blk_sparse.specs.Clauses.{DurableAtNode, DurableListing, ForEachWithout, ForNewPart, IsEntryPlace, IsNodePlace, ListsPart, OrdersNewPart, UndamagedAtNode, WhereSpace, WritesNewPart};
 ghost use Rattle.blk_sparse.specs.NewParts.{ForEachPartToBeListed, HasIndexPlace, IsBeingNoted, IsFirstIndex, IsBitNoted, AreStoredAt, TakesPart};
 
 use crate::part_record::write_part;

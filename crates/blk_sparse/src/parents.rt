@@ -3,17 +3,17 @@ ghost use Rattle.std.specs.Prelude.{◌≡◌, ◌≤◌, ◌<◌, ◌==◌, ◌
 ghost use Rattle.std.specs.Int.{cast_unsigned, w64};
 ghost use Rattle.std.specs.List.{FoldsTo, list_any};
 ghost use Rattle.std.specs.Option.{ForSome};
-ghost use Rattle.spec_image.specs.Told.{MayWrite, ReadsOnly};
+ghost use Rattle.spec_image.specs.Told.{MayWrite, ReadsOnly, ForTold};
 ghost use Rattle.blk_model.specs.Effects.{doomed};
 ghost use Rattle.blk_model.specs.Sizes.{longest_key, signatures};
 ghost use Rattle.spec_format.specs.Address.{blocks_256, kind_of};
 ghost use Rattle.spec_format.specs.Names.{longest_name};
-ghost use Rattle.blk_io.specs.Faults.{IfDamaged, IfDevice};
+ghost use Rattle.blk_io.specs.Faults.{IfDamaged, IfDevice, UndamagedWhere};
 ghost use Rattle.blk_disk.specs.Open.{IsOpen};
 ghost use Rattle.blk_disk.specs.Tables.{Agrees, is_node_among, stands_among};
 ghost use Rattle.blk_object.specs.FailedChecks.{IsFailedCheck};
 ghost use Rattle.blk_object.specs.Freeing.{IsPlaceAmong};
-ghost use Rattle.blk_sparse.specs.Clauses.{AllOut, Began, BeginsLeft, Calls, CallsLeft, DoomedLeft, DoomsWhole, ForEachInUse, ForEachOwned, ForEachOwner, ForParentIndex, ForTold, GoesWhole, GroupGone, IsGenerationAt, LeftGoneBeside, MaybeDoomed, PartsGone, SessionStays, SessionStaysLeft, Undamaged, UndamagedLeft, UndamagedWhere};
+ghost use Rattle.blk_sparse.specs.Clauses.{AllOut, Began, BeginsLeft, Calls, CallsLeft, DoomedLeft, DoomsWhole, ForEachInUse, ForEachOwned, ForEachOwner, ForParentIndex, GoesWhole, GroupGone, IsGenerationAt, LeftGoneBeside, MaybeDoomed, PartsGone, SessionStays, SessionStaysLeft, Undamaged, UndamagedLeft};
 ghost use Rattle.blk_sparse.specs.Dropping.{HasNoBit};
 ghost use Rattle.blk_sparse.specs.Parents.{LoadsAsParent};
 

@@ -4,14 +4,14 @@ ghost use Rattle.std.specs.Option.{ForSome};
 ghost use Rattle.spec_image.specs.Told.{Passes, MayWrite};
 ghost use Rattle.spec_format.specs.Address.{blocks_256, is_address, kind_of};
 ghost use Rattle.spec_format.specs.Sealed.{RecordChecks};
-ghost use Rattle.blk_io.specs.Faults.{IfDamaged, IfDevice};
+ghost use Rattle.blk_io.specs.Faults.{IfDamaged, IfDevice, UndamagedWhere};
 ghost use Rattle.blk_disk.specs.Open.{IsOpen};
 ghost use Rattle.blk_disk.specs.Tables.{stands_among};
 ghost use Rattle.blk_entry.specs.Writing.{FitsKey, HoldsLongKey, LiesApart};
 ghost use Rattle.law_state.specs.Changes.{StillFinds};
 ghost use Rattle.blk_object.specs.FailedChecks.{IsFailedCheck};
 ghost use Rattle.blk_object.specs.Making.{words_of_places};
-ghost use Rattle.blk_sparse.specs.Clauses.{LeavesThen, NamesStreams, OnlyRecordPasses, UndamagedWhere, WritesStreams};
+ghost use Rattle.blk_sparse.specs.Clauses.{LeavesThen, NamesStreams, OnlyRecordPasses, WritesStreams};
 ghost use Rattle.blk_sparse.specs.NewParts.{IsChildWritten, child_entry, words_of_part};
 
 use crate::new_part::PartPlaces;

@@ -2,15 +2,15 @@
 ghost use Rattle.std.specs.Prelude.{◌≡◌, ◌≤◌, ◌<◌, ◌+◌, IfOk, IsTrue, None, length, take};
 ghost use Rattle.std.specs.Int.{cast_unsigned, w64};
 ghost use Rattle.std.specs.Option.{ForSome};
-ghost use Rattle.spec_image.specs.Told.{ReadsOnly};
+ghost use Rattle.spec_image.specs.Told.{ReadsOnly, ForTold};
 ghost use Rattle.blk_model.specs.Sizes.{largest_offset, longest_key, part_count, part_size, signatures};
 ghost use Rattle.spec_format.specs.Address.{blocks_256, kind_of};
 ghost use Rattle.spec_format.specs.Names.{longest_name};
-ghost use Rattle.blk_io.specs.Faults.{IfDamaged, IfDevice};
+ghost use Rattle.blk_io.specs.Faults.{IfDamaged, IfDevice, UndamagedWhere};
 ghost use Rattle.blk_disk.specs.Open.{IsOpen};
 ghost use Rattle.blk_disk.specs.Tables.{Agrees, stands_among};
 ghost use Rattle.blk_object.specs.FailedChecks.{IsFailedCheck};
-ghost use Rattle.blk_sparse.specs.Clauses.{ForEachOfParent, ForEachWithName, ForTold, HasPartBytes, HasSparseBytes, ReadsPart, Undamaged, UndamagedWhere};
+ghost use Rattle.blk_sparse.specs.Clauses.{ForEachOfParent, ForEachWithName, HasPartBytes, HasSparseBytes, ReadsPart, Undamaged};
 ghost use Rattle.blk_sparse.specs.Changing.{LoadsAsPart};
 ghost use Rattle.blk_sparse.specs.Reading.{ForEachPartRead};
 

@@ -2,7 +2,7 @@
 ghost use Rattle.std.specs.Prelude.{◌≡◌, ◌≤◌, ◌<◌, ◌+◌, [], IsTrue, None, OnOk, length};
 ghost use Rattle.std.specs.Int.{cast_unsigned, w64};
 ghost use Rattle.std.specs.Option.{ForSome};
-ghost use Rattle.spec_image.specs.Told.{Passes, MayWrite};
+ghost use Rattle.spec_image.specs.Told.{Passes, MayWrite, ForTold};
 ghost use Rattle.blk_model.specs.Sizes.{largest_offset, longest_key, part_size, signatures};
 ghost use Rattle.spec_format.specs.Address.{blocks_256, kind_of};
 ghost use Rattle.spec_format.specs.Names.{longest_name};
@@ -12,7 +12,7 @@ ghost use Rattle.blk_disk.specs.Tables.{stands_among};
 ghost use Rattle.blk_alloc.specs.Extending.{KeepsStanding};
 ghost use Rattle.law_state.specs.Changes.{KeepsWith};
 ghost use Rattle.blk_object.specs.FailedChecks.{IsFailedCheck};
-ghost use Rattle.blk_sparse.specs.Clauses.{BeginsTarget, CountsBytes, Durable, DurableStore, ForEachCovered, ForStore, ForTold, ForWriteOf, StoresBytes, Undamaged, UndamagedStore};
+ghost use Rattle.blk_sparse.specs.Clauses.{BeginsTarget, CountsBytes, Durable, DurableStore, ForEachCovered, ForStore, ForWriteOf, StoresBytes, Undamaged, UndamagedStore};
 ghost use Rattle.blk_sparse.specs.SparseWrites.{AreItemsCounted, ForEachTarget, signature_to};
 
 use crate::beginning::begin;

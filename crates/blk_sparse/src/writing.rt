@@ -2,7 +2,7 @@
 ghost use Rattle.std.specs.Prelude.{◌≡◌, ◌≤◌, ◌<◌, ◌+◌, IsTrue, OnOk, length};
 ghost use Rattle.std.specs.Int.{cast_unsigned, w64};
 ghost use Rattle.std.specs.Option.{ForSome};
-ghost use Rattle.spec_image.specs.Told.{MayWrite};
+ghost use Rattle.spec_image.specs.Told.{MayWrite, ForTold};
 ghost use Rattle.blk_model.specs.Sizes.{largest_offset, longest_key, part_count, part_size, signatures};
 ghost use Rattle.spec_format.specs.Address.{blocks_256, kind_of};
 ghost use Rattle.spec_format.specs.Names.{longest_name};
@@ -11,7 +11,7 @@ ghost use Rattle.blk_disk.specs.Open.{IsOpen};
 ghost use Rattle.blk_disk.specs.Tables.{stands_among};
 ghost use Rattle.blk_alloc.specs.Extending.{KeepsStanding};
 ghost use Rattle.blk_object.specs.FailedChecks.{IsFailedCheck};
-ghost use Rattle.blk_sparse.specs.Clauses.{Durable, DurableAtNode, ForBytesOfKey, ForEachCovered, ForEachCoveredOfKey, ForEachPieceOfKey, ForPieceOfKey, ForTold, ForWriteOf, OrdersBytes, OrdersBytesAtNode, OrdersPiece, Undamaged, UndamagedAtNode, WritesBytes, WritesBytesAtNode, WritesPiece};
+ghost use Rattle.blk_sparse.specs.Clauses.{Durable, DurableAtNode, ForBytesOfKey, ForEachCovered, ForEachCoveredOfKey, ForEachPieceOfKey, ForPieceOfKey, ForWriteOf, OrdersBytes, OrdersBytesAtNode, OrdersPiece, Undamaged, UndamagedAtNode, WritesBytes, WritesBytesAtNode, WritesPiece};
 
 use crate::changing::change_part;
 use crate::children::{Parent, read_key};

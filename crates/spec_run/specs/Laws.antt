@@ -161,7 +161,7 @@ EvictedLinesComeEarly = (script : Script) → PrintsEvictionsEarly script → (s
 abbrev pub LinesPrintEvictionsEarly : Type 0
 LinesPrintEvictionsEarly = (number : ℕ) (texts : List (List ℕ)) → PrintsEvictionsEarly (session_script number texts)
 
--- and so are the scripts of the other subcommands: commands up to the first that is refused, the totals, and `put`
+-- and so are the scripts of the other subcommands that play one: commands up to the first that is refused, the totals, and `put`
 abbrev pub FixedScriptsPrintEvictionsEarly : Type 0
 FixedScriptsPrintEvictionsEarly = ((requests : List Request) → PrintsEvictionsEarly (until_refused requests)) × (PrintsEvictionsEarly count_script × ((key : List ℕ) (stream : ℕ) (bytes : List ℕ) → PrintsEvictionsEarly (put_script key stream bytes)))
 
