@@ -5,8 +5,8 @@ use Rattle.std.proofs.lemmas.List.{append-nil, take_all}
 use Rattle.blk_args.specs.declared.kinds.Limit.{Limit}
 use Rattle.blk_args.specs.declared.kinds.Limit.TheVariants as limit
 use Rattle.blk_args.specs.Kinds.{Word, ends, names, sets, says, unknown, word_of}
-use Rattle.blk_args.specs.Apart.{Parts, joined, one_word, parts_in, words_in, taken_apart, with_value, with_word, words_alone}
-use Rattle.blk_args.specs.Words.{asked_by, bytes_of, words_ask}
+use Rattle.blk_args.specs.Apart.{Parts, joined, parts_from, parts_in, ordinary_words, taken_apart, with_option, with_word, words_alone}
+use Rattle.blk_args.specs.Words.{asked_by, argument_bytes, words_ask}
 use Rattle.blk_args.specs.declared.apart.Apart.{Apart}
 use Rattle.blk_args.specs.declared.apart.Ordinary.{Ordinary}
 use Rattle.blk_args.proofs.Refused.{too_many}
@@ -17,14 +17,14 @@ beyond [] = None
 beyond (word ∷ words) = taken_apart words
 
 -- an argument, and then those after it
-pub apart_first : (word : List ℕ) (words : List (List ℕ)) → taken_apart (word ∷ words) ≡ one_word (word_of word) word words (taken_apart words) (beyond words)
+pub apart_first : (word : List ℕ) (words : List (List ℕ)) → taken_apart (word ∷ words) ≡ parts_from (word_of word) word words (taken_apart words) (beyond words)
 unfolding taken_apart
 apart_first word [] = refl
 apart_first word (next ∷ words) = refl
 
 -- what is there of each argument
-pub apart_is : (word : List ℕ) (words : List (List ℕ)) (is : Word) → is ≡ word_of word → taken_apart (word ∷ words) ≡ one_word is word words (taken_apart words) (beyond words)
-apart_is word words is same = apart_first word words ∙ ap (λ (w : Word). one_word w word words (taken_apart words) (beyond words)) (sym same)
+pub apart_is : (word : List ℕ) (words : List (List ℕ)) (is : Word) → is ≡ word_of word → taken_apart (word ∷ words) ≡ parts_from is word words (taken_apart words) (beyond words)
+apart_is word words is same = apart_first word words ∙ ap (λ (w : Word). parts_from w word words (taken_apart words) (beyond words)) (sym same)
 
 -- no argument is left
 pub apart_none : taken_apart [] ≡ Some (words_alone [])
@@ -55,14 +55,14 @@ map_joined : (a b : Parts) (f : Parts → Parts) (rest : Option Parts) → ((c :
 map_joined a b f None is = refl
 map_joined a b f (Some c) is = ap Some (joined_assoc a b c ∙ ap (joined a) (sym (is c)))
 
-pub value_joined : (l : Limit) (value : List ℕ) (c : Parts) → with_value l value c ≡ joined (with_value l value (words_alone [])) c
+pub value_joined : (l : Limit) (value : List ℕ) (c : Parts) → with_option l value c ≡ joined (with_option l value (words_alone [])) c
 value_joined limit.Bytes value c = refl
 value_joined limit.Items value c = refl
 
 -- an option's value was taken
-pub value_taken : (a more : Parts) (l : Limit) (value : List ℕ) (rest : Option Parts) → more ≡ joined a (with_value l value (words_alone [])) → option_map (joined more) rest ≡ option_map (joined a) (option_map (with_value l value) rest)
+pub value_taken : (a more : Parts) (l : Limit) (value : List ℕ) (rest : Option Parts) → more ≡ joined a (with_option l value (words_alone [])) → option_map (joined more) rest ≡ option_map (joined a) (option_map (with_option l value) rest)
 value_taken a more l value rest is =
-    ap (λ (p : Parts). option_map (joined p) rest) is ∙ map_joined a (with_value l value (words_alone [])) (with_value l value) rest (value_joined l value)
+    ap (λ (p : Parts). option_map (joined p) rest) is ∙ map_joined a (with_option l value (words_alone [])) (with_option l value) rest (value_joined l value)
 
 -- a positional argument was taken
 pub word_taken : (a more : Parts) (word : List ℕ) (rest : Option Parts) → more ≡ joined a (words_alone (word ∷ [])) → option_map (joined more) rest ≡ option_map (joined a) (option_map (with_word word) rest)
@@ -74,11 +74,11 @@ none_asked a f None none = refl
 none_asked a f (Some c) none = none c
 
 -- what is taken of an argument, and of those after it
-first : (a : Parts) (is : Word) (word : List ℕ) (words : List (List ℕ)) → is ≡ word_of word → option_map (joined a) (taken_apart (word ∷ words)) ≡ option_map (joined a) (one_word is word words (taken_apart words) (beyond words))
+first : (a : Parts) (is : Word) (word : List ℕ) (words : List (List ℕ)) → is ≡ word_of word → option_map (joined a) (taken_apart (word ∷ words)) ≡ option_map (joined a) (parts_from is word words (taken_apart words) (beyond words))
 first a is word words same = ap (option_map (joined a)) (apart_is word words is same)
 
 -- nothing is asked where the first argument asks for nothing
-first_refused : (a : Parts) (is : Word) (word : List ℕ) (words : List (List ℕ)) → is ≡ word_of word → option_and_then asked_by (option_map (joined a) (one_word is word words (taken_apart words) (beyond words))) ≡ None
+first_refused : (a : Parts) (is : Word) (word : List ℕ) (words : List (List ℕ)) → is ≡ word_of word → option_and_then asked_by (option_map (joined a) (parts_from is word words (taken_apart words) (beyond words))) ≡ None
     → option_and_then asked_by (option_map (joined a) (taken_apart (word ∷ words))) ≡ None
 first_refused a is word words same none = ap (option_and_then asked_by) (first a is word words same) ∙ none
 
@@ -98,21 +98,21 @@ pub says_taken : (a more : Parts) (word : List ℕ) (words : List (List ℕ)) �
 says_taken a more word words is same = word_taken a more word (taken_apart words) same ∙ sym (first a says word words is)
 
 -- An option with its value.
-pub sets_refused : (a : Parts) (l : Limit) (value word : List ℕ) (words : List (List ℕ)) → sets l value ≡ word_of word → ((c : Parts) → asked_by (joined a (with_value l value c)) ≡ None)
+pub sets_refused : (a : Parts) (l : Limit) (value word : List ℕ) (words : List (List ℕ)) → sets l value ≡ word_of word → ((c : Parts) → asked_by (joined a (with_option l value c)) ≡ None)
     → option_and_then asked_by (option_map (joined a) (taken_apart (word ∷ words))) ≡ None
-sets_refused a l value word words is none = first_refused a (sets l value) word words is (none_asked a (with_value l value) (taken_apart words) none)
+sets_refused a l value word words is none = first_refused a (sets l value) word words is (none_asked a (with_option l value) (taken_apart words) none)
 
-pub sets_taken : (a more : Parts) (l : Limit) (value word : List ℕ) (words : List (List ℕ)) → sets l value ≡ word_of word → more ≡ joined a (with_value l value (words_alone [])) → option_map (joined more) (taken_apart words) ≡ option_map (joined a) (taken_apart (word ∷ words))
+pub sets_taken : (a more : Parts) (l : Limit) (value word : List ℕ) (words : List (List ℕ)) → sets l value ≡ word_of word → more ≡ joined a (with_option l value (words_alone [])) → option_map (joined more) (taken_apart words) ≡ option_map (joined a) (taken_apart (word ∷ words))
 sets_taken a more l value word words is same = value_taken a more l value (taken_apart words) same ∙ sym (first a (sets l value) word words is)
 
 -- An option whose value is the next argument.
-pub names_refused : (a : Parts) (l : Limit) (value word : List ℕ) (all words : List (List ℕ)) → names l ≡ word_of word → all ≡ value ∷ words → ((c : Parts) → asked_by (joined a (with_value l value c)) ≡ None)
+pub names_refused : (a : Parts) (l : Limit) (value word : List ℕ) (all words : List (List ℕ)) → names l ≡ word_of word → all ≡ value ∷ words → ((c : Parts) → asked_by (joined a (with_option l value c)) ≡ None)
     → option_and_then asked_by (option_map (joined a) (taken_apart (word ∷ all))) ≡ None
 names_refused a l value word all words is split none =
     ap (λ (l : List (List ℕ)). option_and_then asked_by (option_map (joined a) (taken_apart (word ∷ l)))) split
-    ∙ first_refused a (names l) word (value ∷ words) is (none_asked a (with_value l value) (taken_apart words) none)
+    ∙ first_refused a (names l) word (value ∷ words) is (none_asked a (with_option l value) (taken_apart words) none)
 
-pub names_taken : (a more : Parts) (l : Limit) (value word : List ℕ) (all words : List (List ℕ)) → names l ≡ word_of word → all ≡ value ∷ words → more ≡ joined a (with_value l value (words_alone []))
+pub names_taken : (a more : Parts) (l : Limit) (value word : List ℕ) (all words : List (List ℕ)) → names l ≡ word_of word → all ≡ value ∷ words → more ≡ joined a (with_option l value (words_alone []))
     → option_map (joined more) (taken_apart words) ≡ option_map (joined a) (taken_apart (word ∷ all))
 names_taken a more l value word all words is split same =
     value_taken a more l value (taken_apart words) same ∙ sym (first a (names l) word (value ∷ words) is) ∙ sym (ap (λ (l : List (List ℕ)). option_map (joined a) (taken_apart (word ∷ l))) split)
@@ -125,18 +125,18 @@ pub unknown_refused : (a : Parts) (word : List ℕ) (words : List (List ℕ)) �
 unknown_refused a word words is = first_refused a unknown word words is refl
 
 -- the parts with more positional arguments
-pub more_words : (apart with : Apart) (all : Ordinary) (words : List (List ℕ)) → with ≡ record apart { ordinary = all } → words_in all ≡ words_in apart.ordinary ++ words → parts_in with ≡ joined (parts_in apart) (words_alone words)
+pub more_words : (apart with : Apart) (all : Ordinary) (words : List (List ℕ)) → with ≡ record apart { ordinary = all } → ordinary_words all ≡ ordinary_words apart.ordinary ++ words → parts_in with ≡ joined (parts_in apart) (words_alone words)
 more_words apart with all words is are =
     ap parts_in is ∙ same_parts (parts_in (record apart { ordinary = all })) (joined (parts_in apart) (words_alone words)) (sym (append-nil (parts_in apart).maxes)) (sym (append-nil (parts_in apart).counts)) are
 
 -- the first of some arguments, and those after it
-pub first_word : (words : List (String Global)) (word : String Global) (bytes : List ℕ) → 1 ≤ length words → word ≡ get_or words 0 word → bytes ≡ string_bytes word → bytes_of words ≡ bytes ∷ bytes_of (take (length words - 1) (drop 1 words))
+pub first_word : (words : List (String Global)) (word : String Global) (bytes : List ℕ) → 1 ≤ length words → word ≡ get_or words 0 word → bytes ≡ string_bytes word → argument_bytes words ≡ bytes ∷ argument_bytes (take (length words - 1) (drop 1 words))
 first_word [] word bytes some is are = absurd (omega arith)
 first_word (x ∷ words) word bytes some is are =
-    ap (λ (b : List ℕ). b ∷ bytes_of words) (sym (are ∙ ap string_bytes is)) ∙ ap (λ (rest : List (String Global)). bytes ∷ bytes_of rest) (sym (take_all (length (x ∷ words) - 1) words (omega arith)))
+    ap (λ (b : List ℕ). b ∷ argument_bytes words) (sym (are ∙ ap string_bytes is)) ∙ ap (λ (rest : List (String Global)). bytes ∷ argument_bytes rest) (sym (take_all (length (x ∷ words) - 1) words (omega arith)))
 
 -- there is none
-pub no_word : (words : List (String Global)) → length words < 1 → bytes_of words ≡ []
+pub no_word : (words : List (String Global)) → length words < 1 → argument_bytes words ≡ []
 no_word [] none = refl
 no_word (x ∷ words) none = absurd (omega arith)
 

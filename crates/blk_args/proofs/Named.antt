@@ -11,18 +11,18 @@ use Rattle.blk_model.specs.State.{Bounds}
 use Rattle.blk_args.specs.declared.order.Order.{Order}
 use Rattle.blk_args.specs.declared.verbs.Verb.{Verb}
 use Rattle.blk_args.specs.Apart.{Parts, taken_apart}
-use Rattle.blk_args.specs.Tasks.{Task, by_word, first_words, task_given, task_in, task_of}
+use Rattle.blk_args.specs.Tasks.{Task, verb_of_word, first_words, task_given, task_in, task_of}
 use Rattle.blk_args.specs.Words.{Invocation, allowed, asked_by, at_most_once, limits_in, words_ask}
 use Rattle.blk_args.proofs.Refused.{and_none}
 
 -- the first argument is none of the table
-pub unnamed : (r : Option Order) (words : List (List ℕ)) (found : Option Verb) (word : List ℕ) (behind : List (List ℕ)) → r ≡ None → words ≡ word ∷ behind → found ≡ by_word word first_words → found ≡ None → option_map task_given r ≡ task_in words
+pub unnamed : (r : Option Order) (words : List (List ℕ)) (found : Option Verb) (word : List ℕ) (behind : List (List ℕ)) → r ≡ None → words ≡ word ∷ behind → found ≡ verb_of_word word first_words → found ≡ None → option_map task_given r ≡ task_in words
 unfolding task_in
 unnamed r words found word behind none are is not =
     ap (option_map task_given) none ∙ sym (ap task_in are ∙ ap (option_and_then (λ (v : Verb). task_of v behind)) (sym is ∙ not))
 
 -- it is one of the table
-pub named : (r : Option Order) (words : List (List ℕ)) (found : Option Verb) (v : Verb) (word : List ℕ) (behind : List (List ℕ)) → words ≡ word ∷ behind → found ≡ by_word word first_words → found ≡ Some v → option_map task_given r ≡ task_of v behind
+pub named : (r : Option Order) (words : List (List ℕ)) (found : Option Verb) (v : Verb) (word : List ℕ) (behind : List (List ℕ)) → words ≡ word ∷ behind → found ≡ verb_of_word word first_words → found ≡ Some v → option_map task_given r ≡ task_of v behind
     → option_map task_given r ≡ task_in words
 unfolding task_in
 named r words found v word behind are is so gives =

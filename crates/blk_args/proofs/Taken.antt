@@ -9,7 +9,7 @@ use Rattle.clap.specs.Takes.{default_passes, entered_passes, is_valid, settle_pa
 use Rattle.blk_args.specs.declared.kinds.Limit.{Limit}
 use Rattle.blk_args.specs.declared.kinds.Limit.TheVariants as limit
 use Rattle.blk_args.specs.Kinds.{Word, ends, names, sets, says, unknown, word_of}
-use Rattle.blk_args.specs.Apart.{Parts, joined, one_word, taken_apart, with_value, with_word, words_alone}
+use Rattle.blk_args.specs.Apart.{Parts, joined, parts_from, taken_apart, with_option, with_word, words_alone}
 use Rattle.blk_args.specs.Parsing.{option_rule, program}
 use Rattle.blk_args.specs.Numbers.{number_word}
 use Rattle.blk_args.specs.Words.{at_most_once}
@@ -138,7 +138,7 @@ pub record IsOnce (l : Limit) (value : Text) (parts : Parts) : Type 0 where
   pub n : ℕ
   pub reads : number_word value ≡ Some n
 
-is_once : (l : Limit) (value : Text) (parts rest : Parts) → IsInside (joined parts (with_value l value rest)) → IsOnce l value parts
+is_once : (l : Limit) (value : Text) (parts rest : Parts) → IsInside (joined parts (with_option l value rest)) → IsOnce l value parts
 is_once limit.Bytes value parts rest inside =
     let o = once 83886080 parts.maxes rest.maxes value inside.bytes inside.one_max in
     record { first = o.0; n = inside.bytes; reads = o.1 }
@@ -165,7 +165,7 @@ mapped f (Some p) rest e = (p, refl, inj e)
     inj c = cc
 
 -- an option and its value were met
-option_ready : (l : Limit) (value : Text) (rows : List Row) (pending : Pending) (parts : Parts) → IsReady rows pending parts → values_in l parts ≡ [] → IsReady (all_rows rows pending) (value_of l value) (joined parts (with_value l value (words_alone [])))
+option_ready : (l : Limit) (value : Text) (rows : List Row) (pending : Pending) (parts : Parts) → IsReady rows pending parts → values_in l parts ≡ [] → IsReady (all_rows rows pending) (value_of l value) (joined parts (with_option l value (words_alone [])))
 option_ready limit.Bytes value rows pending parts ready first = record { shows = option_used limit.Bytes (all_rows rows pending) parts value ready.shows first; may = option_absent limit.Bytes (all_rows rows pending) parts ready.shows first }
 option_ready limit.Items value rows pending parts ready first = record { shows = option_used limit.Items (all_rows rows pending) parts value ready.shows first; may = option_absent limit.Items (all_rows rows pending) parts ready.shows first }
 
@@ -173,11 +173,11 @@ module _ (word : Text) (rest parts : Parts) (rows : List Row) (pending : Pending
   holds_now : settle_passes rules false (held rows pending) ≡ true
   holds_now = settles rows pending parts ready (few_before parts rest inside)
 
-  set_met : (words : List Text) (l : Limit) (value : Text) (behind : Parts) → Walking words → word ≡ setting_word l value → taken_apart words ≡ Some behind → rest ≡ with_value l value behind → Walks (word ∷ words) (stands rows pending b false) (joined parts rest)
+  set_met : (words : List Text) (l : Limit) (value : Text) (behind : Parts) → Walking words → word ≡ setting_word l value → taken_apart words ≡ Some behind → rest ≡ with_option l value behind → Walks (word ∷ words) (stands rows pending b false) (joined parts rest)
   set_met words l value behind more is are same =
       let o = is_once l value parts behind (subst (λ (p : Parts). IsInside (joined parts p)) same inside) in
-      let next : Parts = joined parts (with_value l value (words_alone [])) in
-      let whole : joined next behind ≡ joined parts rest = joined_assoc parts (with_value l value (words_alone [])) behind ∙ ap (joined parts) (sym (value_joined l value behind) ∙ sym same) in
+      let next : Parts = joined parts (with_option l value (words_alone [])) in
+      let whole : joined next behind ≡ joined parts rest = joined_assoc parts (with_option l value (words_alone [])) behind ∙ ap (joined parts) (sym (value_joined l value behind) ∙ sym same) in
       let used = option_used l (all_rows rows pending) parts value ready.shows o.first in
       let fresh : has_row (name_of l) (all_rows rows pending) ≡ false = absent_row (name_of l) (all_rows rows pending) (option_absent l (all_rows rows pending) parts ready.shows o.first) in
       subst (λ (w : Text). Walks (w ∷ words) (stands rows pending b false) (joined parts rest)) (sym is)
@@ -185,11 +185,11 @@ module _ (word : Text) (rest parts : Parts) (rows : List Row) (pending : Pending
       (step_then (setting_word l value) words (stands rows pending b false) (stands (all_rows (all_rows rows pending) (value_of l value)) nothing false false) (joined next behind) (set_step l value rows pending b) (set_passes l value rows pending b holds_now fresh)
       (more behind next (all_rows (all_rows rows pending) (value_of l value)) nothing false are (record { shows = used; may = tt }) (subst IsInside (sym whole) inside))))
 
-  name_met : (words : List Text) (l : Limit) (value : Text) (behind : Parts) → Walking words → word ≡ option_word l → taken_apart words ≡ Some behind → rest ≡ with_value l value behind → Walks (word ∷ value ∷ words) (stands rows pending b false) (joined parts rest)
+  name_met : (words : List Text) (l : Limit) (value : Text) (behind : Parts) → Walking words → word ≡ option_word l → taken_apart words ≡ Some behind → rest ≡ with_option l value behind → Walks (word ∷ value ∷ words) (stands rows pending b false) (joined parts rest)
   name_met words l value behind more is are same =
       let o = is_once l value parts behind (subst (λ (p : Parts). IsInside (joined parts p)) same inside) in
-      let next : Parts = joined parts (with_value l value (words_alone [])) in
-      let whole : joined next behind ≡ joined parts rest = joined_assoc parts (with_value l value (words_alone [])) behind ∙ ap (joined parts) (sym (value_joined l value behind) ∙ sym same) in
+      let next : Parts = joined parts (with_option l value (words_alone [])) in
+      let whole : joined next behind ≡ joined parts rest = joined_assoc parts (with_option l value (words_alone [])) behind ∙ ap (joined parts) (sym (value_joined l value behind) ∙ sym same) in
       let plain = number_is_plain value o.n o.reads in
       subst (λ (w : Text). Walks (w ∷ value ∷ words) (stands rows pending b false) (joined parts rest)) (sym is)
       (subst (Walks (option_word l ∷ value ∷ words) (stands rows pending b false)) whole
@@ -212,17 +212,17 @@ module _ (word : Text) (rest parts : Parts) (rows : List Row) (pending : Pending
       (step_then (codes "--") words (stands rows pending b false) (stands rows pending b true) (joined parts (words_alone words)) (end_step rows pending b) (end_passes rows pending b)
       (trailing_walk words rows pending b parts ready (subst (λ (p : Parts). length (parts.ordinary ++ p.ordinary) ≤ 3) same inside.few))))
 
-  by_kind : (words : List Text) (k : Word) → Walking words → Behind words → IsWritten word k → one_word k word words (taken_apart words) (beyond words) ≡ Some rest → Walks (word ∷ words) (stands rows pending b false) (joined parts rest)
+  by_kind : (words : List Text) (k : Word) → Walking words → Behind words → IsWritten word k → parts_from k word words (taken_apart words) (beyond words) ≡ Some rest → Walks (word ∷ words) (stands rows pending b false) (joined parts rest)
   by_kind words ends more behind is are = end_met words is (inj are)
     where
       inj : Some (words_alone words) ≡ Some rest → rest ≡ words_alone words
       inj c = cc
   by_kind [] (names l) more behind is are = none_some are
   by_kind (value ∷ words) (names l) more behind is are =
-      let m = mapped (with_value l value) (taken_apart words) rest are in
+      let m = mapped (with_option l value) (taken_apart words) rest are in
       name_met words l value m.0 behind is m.1 m.2
   by_kind words (sets l value) more behind is are =
-      let m = mapped (with_value l value) (taken_apart words) rest are in
+      let m = mapped (with_option l value) (taken_apart words) rest are in
       set_met words l value m.0 more is m.1 m.2
   by_kind words says more behind is are =
       let m = mapped (with_word word) (taken_apart words) rest are in

@@ -12,7 +12,7 @@ use Rattle.clap.specs.declared.builder.value_parser.Reading.TheVariants.{AsWritt
 use Rattle.clap.specs.declared.parser.matches.ValueSource.TheVariants.{CommandLine}
 use Rattle.blk_args.specs.declared.kinds.Limit.{Limit}
 use Rattle.blk_args.specs.declared.kinds.Limit.TheVariants as limit
-use Rattle.blk_args.specs.Apart.{Parts, joined, with_value, words_alone}
+use Rattle.blk_args.specs.Apart.{Parts, joined, with_option, words_alone}
 use Rattle.blk_args.specs.Parsing.{program}
 use Rattle.blk_args.specs.Words.{at_most_once}
 use Rattle.blk_args.proofs.Rows.{absent_same, absent_row, values_kept, values_there, values_used}
@@ -112,7 +112,7 @@ given_more [] word = refl
 given_more (value ∷ values) word = refl
 
 -- a use of an option
-pub max_used : (rows : List Row) (parts : Parts) (value : Text) → Shows rows parts → parts.maxes ≡ [] → Shows (all_rows rows (value_of limit.Bytes value)) (joined parts (with_value limit.Bytes value (words_alone [])))
+pub max_used : (rows : List Row) (parts : Parts) (value : Text) → Shows rows parts → parts.maxes ≡ [] → Shows (all_rows rows (value_of limit.Bytes value)) (joined parts (with_option limit.Bytes value (words_alone [])))
 max_used rows parts value shows first =
     let none : all_of (codes "max") rows ≡ None = shows.maxes ∙ ap given first in
     let same = ap (with_values (codes "max") AsWritten CommandLine (value ∷ [])) (absent_same (codes "max") rows none) in
@@ -122,7 +122,7 @@ max_used rows parts value shows first =
       ordinary = ap (all_of (codes "words")) same ∙ values_kept (codes "max") (codes "words") AsWritten CommandLine (value ∷ []) rows refl ∙ shows.ordinary ∙ ap given (sym (append-nil parts.ordinary));
     }
 
-pub items_used : (rows : List Row) (parts : Parts) (value : Text) → Shows rows parts → parts.counts ≡ [] → Shows (all_rows rows (value_of limit.Items value)) (joined parts (with_value limit.Items value (words_alone [])))
+pub items_used : (rows : List Row) (parts : Parts) (value : Text) → Shows rows parts → parts.counts ≡ [] → Shows (all_rows rows (value_of limit.Items value)) (joined parts (with_option limit.Items value (words_alone [])))
 items_used rows parts value shows first =
     let none : all_of (codes "items") rows ≡ None = shows.counts ∙ ap given first in
     let same = ap (with_values (codes "items") AsWritten CommandLine (value ∷ [])) (absent_same (codes "items") rows none) in
@@ -137,7 +137,7 @@ abbrev pub values_in : Limit → Parts → List Text
 values_in limit.Bytes parts = parts.maxes
 values_in limit.Items parts = parts.counts
 
-pub option_used : (l : Limit) (rows : List Row) (parts : Parts) (value : Text) → Shows rows parts → values_in l parts ≡ [] → Shows (all_rows rows (value_of l value)) (joined parts (with_value l value (words_alone [])))
+pub option_used : (l : Limit) (rows : List Row) (parts : Parts) (value : Text) → Shows rows parts → values_in l parts ≡ [] → Shows (all_rows rows (value_of l value)) (joined parts (with_option l value (words_alone [])))
 option_used limit.Bytes rows parts value shows first = max_used rows parts value shows first
 option_used limit.Items rows parts value shows first = items_used rows parts value shows first
 

@@ -16,9 +16,9 @@ pub record Parts : Type 0 where
   pub ordinary : List (List ℕ)
 
 -- the parts with a value of an option in front of its others
-abbrev pub with_value : Limit → List ℕ → Parts → Parts
-with_value limit.Bytes value parts = record { maxes = value ∷ parts.maxes; counts = parts.counts; ordinary = parts.ordinary }
-with_value limit.Items value parts = record { maxes = parts.maxes; counts = value ∷ parts.counts; ordinary = parts.ordinary }
+abbrev pub with_option : Limit → List ℕ → Parts → Parts
+with_option limit.Bytes value parts = record { maxes = value ∷ parts.maxes; counts = parts.counts; ordinary = parts.ordinary }
+with_option limit.Items value parts = record { maxes = parts.maxes; counts = value ∷ parts.counts; ordinary = parts.ordinary }
 
 -- the parts with a positional argument in front of its others
 abbrev pub with_word : List ℕ → Parts → Parts
@@ -30,33 +30,33 @@ words_alone words = record { maxes = []; counts = []; ordinary = words }
 
 -- the parts of an argument and those after it, where `behind` are the parts after it and `beyond` those after the next; an option without `=` takes its value
 -- from the next argument
-abbrev pub one_word : Word → List ℕ → List (List ℕ) → Option Parts → Option Parts → Option Parts
-one_word ends word words behind beyond = Some (words_alone words)
-one_word (names limit) word [] behind beyond = None
-one_word (names limit) word (value ∷ words) behind beyond = option_map (with_value limit value) beyond
-one_word (sets limit value) word words behind beyond = option_map (with_value limit value) behind
-one_word says word words behind beyond = option_map (with_word word) behind
-one_word unknown word words behind beyond = None
+abbrev pub parts_from : Word → List ℕ → List (List ℕ) → Option Parts → Option Parts → Option Parts
+parts_from ends word words behind beyond = Some (words_alone words)
+parts_from (names limit) word [] behind beyond = None
+parts_from (names limit) word (value ∷ words) behind beyond = option_map (with_option limit value) beyond
+parts_from (sets limit value) word words behind beyond = option_map (with_option limit value) behind
+parts_from says word words behind beyond = option_map (with_word word) behind
+parts_from unknown word words behind beyond = None
 
 -- the arguments split, or None where one of them isn't in the grammar
 unfoldable pub taken_apart : List (List ℕ) → Option Parts
 taken_apart [] = Some (words_alone [])
-taken_apart (word ∷ []) = one_word (word_of word) word [] (Some (words_alone [])) None
-taken_apart (word ∷ next ∷ words) = one_word (word_of word) word (next ∷ words) (taken_apart (next ∷ words)) (taken_apart words)
+taken_apart (word ∷ []) = parts_from (word_of word) word [] (Some (words_alone [])) None
+taken_apart (word ∷ next ∷ words) = parts_from (word_of word) word (next ∷ words) (taken_apart (next ∷ words)) (taken_apart words)
 
 -- the positional arguments that the program has collected
-abbrev pub words_in : Ordinary → List (List ℕ)
-words_in ordinary.None = []
-words_in (ordinary.One a) = a.now ∷ []
-words_in (ordinary.Two a b) = a.now ∷ b.now ∷ []
-words_in (ordinary.Three a b c) = a.now ∷ b.now ∷ c.now ∷ []
+abbrev pub ordinary_words : Ordinary → List (List ℕ)
+ordinary_words ordinary.None = []
+ordinary_words (ordinary.One a) = a.now ∷ []
+ordinary_words (ordinary.Two a b) = a.now ∷ b.now ∷ []
+ordinary_words (ordinary.Three a b c) = a.now ∷ b.now ∷ c.now ∷ []
 
 -- the value of an option, as a list of none or one
 abbrev pub value_in : Option (Bor (List ℕ)) → List (List ℕ)
 value_in value = option_to_list (option_map (λ (v : Bor (List ℕ)). v.now) value)
 
 abbrev pub parts_in : Apart → Parts
-parts_in apart = record { maxes = value_in apart.max; counts = value_in apart.items; ordinary = words_in apart.ordinary }
+parts_in apart = record { maxes = value_in apart.max; counts = value_in apart.items; ordinary = ordinary_words apart.ordinary }
 
 -- the parts of one command line followed by another
 abbrev pub joined : Parts → Parts → Parts

@@ -40,9 +40,9 @@ word_of word =
     else says
 
 -- the kind of an argument, as the program has it
-abbrev pub shown : Kind → Word
-shown kind.End = ends
-shown (kind.Name limit) = names limit
-shown (kind.Value limit value) = sets limit value.now
-shown kind.Ordinary = says
-shown kind.Unknown = unknown
+abbrev pub kind_word : Kind → Word
+kind_word kind.End = ends
+kind_word (kind.Name limit) = names limit
+kind_word (kind.Value limit value) = sets limit value.now
+kind_word kind.Ordinary = says
+kind_word kind.Unknown = unknown

@@ -1,5 +1,6 @@
 -- The subcommands: what the positional arguments ask for.
 use Rattle.std.specs.Prelude.{ℕ, ◌≡◌, if◌then◌else◌, List, [], ◌∷◌, codes, Option, Some, None, Ok}
+use Rattle.std.specs.Borrow.{Bor}
 use Rattle.std.specs.Option.{option_and_then, option_map}
 use Rattle.std.specs.Result.{result_ok}
 use Rattle.std.specs.Str.{bytes_eq}
@@ -59,6 +60,14 @@ abbrev pub key_and_stream : (List ℕ → ℕ → Task) → List (List ℕ) → 
 key_and_stream make (key ∷ stream ∷ []) = option_and_then (λ (k : List ℕ). option_map (make k) (stream_word stream)) (key_word key)
 key_and_stream make _ = None
 
+-- a subcommand with the key that is spelled so, and the stream
+abbrev pub task_on : (List ℕ → ℕ → Task) → Option (Bor (List ℕ) × ℕ) → Option Task
+task_on make pair = option_map (λ (p : Bor (List ℕ) × ℕ). make (percent_decode p.0.now) p.1) pair
+
+-- a subcommand with this key and this stream
+abbrev pub of_key_and_stream : (List ℕ → ℕ → Task) → (key stream : List ℕ) → Option Task
+of_key_and_stream make key stream = key_and_stream make (key ∷ stream ∷ [])
+
 -- the subcommand `inspect`, with the name of a part of a folder, alone or with a number or an address
 abbrev pub a_part : List (List ℕ) → Option Task
 a_part (name ∷ []) = option_map do_inspect (part_named name)
@@ -99,14 +108,14 @@ first_words =
     ∷ []
 
 -- the subcommand of a name in the table, or None
-abbrev pub by_word : List ℕ → List (List ℕ × Verb) → Option Verb
-by_word word [] = None
-by_word word (line ∷ table) = if bytes_eq word line.0 then Some line.1 else by_word word table
+abbrev pub verb_of_word : List ℕ → List (List ℕ × Verb) → Option Verb
+verb_of_word word [] = None
+verb_of_word word (line ∷ table) = if bytes_eq word line.0 then Some line.1 else verb_of_word word table
 
 -- what the positional arguments ask for, or None where they aren't in the grammar
 unfoldable pub task_in : List (List ℕ) → Option Task
 task_in [] = None
-task_in (word ∷ words) = option_and_then (λ (v : Verb). task_of v words) (by_word word first_words)
+task_in (word ∷ words) = option_and_then (λ (v : Verb). task_of v words) (verb_of_word word first_words)
 
 -- the subcommand that a parsed order of the program denotes
 abbrev pub task_given : Order → Task

@@ -1,8 +1,7 @@
 // The arguments are taken apart into options and positional arguments.
 ghost use Rattle.std.specs.Prelude.{◌≡◌, ◌≤◌, ◌++◌, [], ◌∷◌, length, MatchOption, IfSome, Some, None};
-ghost use Rattle.std.specs.Option.{option_map, option_and_then};
-ghost use Rattle.blk_args.specs.Apart.{joined, parts_in, taken_apart, with_value, words_alone, words_in, Parts};
-ghost use Rattle.blk_args.specs.Words.{asked_by, bytes_of, words_ask};
+ghost use Rattle.blk_args.specs.Apart.{parts_in, taken_apart, ordinary_words};
+ghost use Rattle.blk_args.specs.Words.{AddsOption, ExcludesOption, ExcludesWord, LeavesWords, all_ordinary, argument_bytes, words_ask};
 
 use crate::kinds::{Kind, Limit, kind_of};
 
@@ -22,7 +21,7 @@ pub enum Ordinary<'w> {
 impl<'w> Ordinary<'w> {
     // The arguments with one more after them, where there are fewer than three.
     fn and(self, word: &'w [u8]) -> Option<Ordinary<'w>>
-        ensures { MatchOption result (3 ≤ length (words_in self.entry)) (λ more. words_in more ≡ words_in self.entry ++ word.now ∷ []) }
+        ensures { MatchOption result (3 ≤ length (ordinary_words self.entry)) (λ more. ordinary_words more ≡ ordinary_words self.entry ++ word.now ∷ []) }
     {
         match self {
             Ordinary::None => Some(Ordinary::One(word)),
@@ -34,7 +33,7 @@ impl<'w> Ordinary<'w> {
 
     // The arguments with all these after them, where they are three at most.
     fn and_all(self, words: &'w [String]) -> Option<Ordinary<'w>>
-        ensures { MatchOption result (4 ≤ length (words_in self.entry ++ bytes_of words.now)) (λ more. words_in more ≡ words_in self.entry ++ bytes_of words.now) }
+        ensures { MatchOption result (4 ≤ length (all_ordinary self.entry words.now)) (λ more. ordinary_words more ≡ all_ordinary self.entry words.now) }
     {
         let mut all = self;
         for word in words {
@@ -55,7 +54,7 @@ pub struct Apart<'w> {
 impl<'w> Apart<'w> {
     // The parts with this value of an option that has none yet.
     fn set(self, limit: Limit, value: &'w [u8]) -> Option<Apart<'w>>
-        ensures { MatchOption result ((behind : Parts) → asked_by (joined (parts_in self.entry) (with_value limit value.now behind)) ≡ None) (λ more. parts_in more ≡ joined (parts_in self.entry) (with_value limit value.now (words_alone []))) }
+        ensures { MatchOption result (ExcludesOption self.entry limit value.now) (AddsOption self.entry limit value.now) }
     {
         let Apart {
             max,
@@ -80,7 +79,7 @@ impl<'w> Apart<'w> {
 
     // Takes one argument, or an option and its value, and gives the arguments after that.
     fn take(self, word: &'w [u8], behind: &'w [String]) -> Option<(Apart<'w>, &'w [String])>
-        ensures asks { MatchOption result (option_and_then asked_by (option_map (joined (parts_in self.entry)) (taken_apart (word.now ∷ bytes_of behind.now))) ≡ None) (λ next. option_map (joined (parts_in next.0)) (taken_apart (bytes_of next.1.now)) ≡ option_map (joined (parts_in self.entry)) (taken_apart (word.now ∷ bytes_of behind.now))) }
+        ensures asks { MatchOption result (ExcludesWord self.entry word.now behind.now) (λ next. LeavesWords self.entry word.now behind.now next.0 next.1.now) }
         ensures fewer { IfSome result (λ next. length next.1.now ≤ length behind.now) }
     {
         match kind_of(word) {
@@ -109,7 +108,7 @@ impl<'w> Apart<'w> {
 
 /// The arguments taken apart, if they may be arguments of the grammar.
 pub fn take_apart(words: &[String]) -> Option<Apart<'_>>
-    ensures { MatchOption result (words_ask (bytes_of words.now) ≡ None) (λ apart. taken_apart (bytes_of words.now) ≡ Some (parts_in apart)) }
+    ensures { MatchOption result (words_ask (argument_bytes words.now) ≡ None) (λ apart. taken_apart (argument_bytes words.now) ≡ Some (parts_in apart)) }
 {
     let mut apart = Apart {
         max: None,

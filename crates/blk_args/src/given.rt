@@ -1,9 +1,9 @@
 // The arguments are parsed by the crate `clap`, which gives the values of the options and the positional arguments.
 ghost use Rattle.std.specs.Prelude.{◌≡◌, ◌≤◌, IfErr, IfOk, IsSome, Some, length, map, option_map};
 ghost use Rattle.clap.specs.Words.{HasMatchesOf, first_value, found_of, kind_of};
-ghost use Rattle.blk_args.specs.Apart.{parts_in, taken_apart, words_in};
+ghost use Rattle.blk_args.specs.Apart.{parts_in, taken_apart, ordinary_words};
 ghost use Rattle.blk_args.specs.Parsing.{program};
-ghost use Rattle.blk_args.specs.Words.{bytes_of, words_ask};
+ghost use Rattle.blk_args.specs.Words.{argument_bytes, words_ask};
 
 use crate::apart::{Apart, Ordinary};
 use blk_io::NoMemory;
@@ -13,8 +13,8 @@ use std::alloc::Global;
 
 // What the parse of the arguments gives: two options with a value each, and positional arguments.
 fn parse<'w>(alloc: Global, words: &'w [String]) -> Result<ArgMatches<'w>, Error>
-    requires inside { IsSome (words_ask (bytes_of words.now)) }
-    ensures matches { IfOk result (HasMatchesOf program (bytes_of words.now)) }
+    requires inside { IsSome (words_ask (argument_bytes words.now)) }
+    ensures matches { IfOk result (HasMatchesOf program (argument_bytes words.now)) }
     ensures wanting { IfErr result (λ error. kind_of error ≡ ErrorKind.OutOfMemory) }
 {
     let max = Arg::new(alloc, "max").long("max").action(ArgAction::Set);
@@ -45,7 +45,7 @@ fn value_of<'w>(matches: &ArgMatches<'w>, name: &str) -> Option<&'w [u8]>
 // The positional arguments, of which there are three at most.
 fn ordinary_of<'w>(words: &[&'w str]) -> Ordinary<'w>
     requires few { length words.now ≤ 3 }
-    ensures { words_in result ≡ map (λ word. word.now) words.now }
+    ensures { ordinary_words result ≡ map (λ word. word.now) words.now }
 {
     match words {
         [] => Ordinary::None,
@@ -58,8 +58,8 @@ fn ordinary_of<'w>(words: &[&'w str]) -> Ordinary<'w>
 
 /// The arguments taken apart, which are those of the grammar. It fails only when out of memory.
 pub fn take_given<'w>(alloc: Global, words: &'w [String]) -> Result<Apart<'w>, NoMemory>
-    requires inside { IsSome (words_ask (bytes_of words.now)) }
-    ensures { IfOk result (λ apart. taken_apart (bytes_of words.now) ≡ Some (parts_in apart)) }
+    requires inside { IsSome (words_ask (argument_bytes words.now)) }
+    ensures { IfOk result (λ apart. taken_apart (argument_bytes words.now) ≡ Some (parts_in apart)) }
 {
     let Ok(matches) = parse(alloc, words) else {
         return Err(NoMemory);

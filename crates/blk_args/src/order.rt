@@ -3,8 +3,8 @@ ghost use Rattle.std.specs.Prelude.{◌≡◌, ℕ, List, [], ◌∷◌, IfSome,
 ghost use Rattle.std.specs.Option.{option_map};
 ghost use Rattle.percent_encoding.specs.Percent.{percent_decode};
 ghost use Rattle.blk_script.specs.Fields.{key_field};
-ghost use Rattle.blk_args.specs.Apart.{words_in};
-ghost use Rattle.blk_args.specs.Tasks.{HasSpelledKey, Task, key_and_stream, key_word, task_given, task_in, task_of};
+ghost use Rattle.blk_args.specs.Apart.{ordinary_words};
+ghost use Rattle.blk_args.specs.Tasks.{HasSpelledKey, Task, key_word, of_key_and_stream, task_given, task_in, task_of, task_on};
 
 use crate::apart::Ordinary;
 use crate::inspected::{part_named, part_numbered};
@@ -44,7 +44,7 @@ pub enum Order<'w> {
 
 /// What the positional arguments ask for, if they are a command.
 pub fn read_order(words: Ordinary<'_>) -> Option<Order<'_>>
-    ensures task { option_map task_given result ≡ task_in (words_in words.entry) }
+    ensures task { option_map task_given result ≡ task_in (ordinary_words words.entry) }
     ensures spelled { IfSome result HasSpelledKey }
 {
     match words {
@@ -129,7 +129,7 @@ fn read_with_two<'w>(verb: Verb, first: &'w [u8], second: &[u8]) -> Option<Order
 
 // A key and a stream.
 fn key_and_stream<'w>(key: &'w [u8], stream: &[u8]) -> Option<(&'w [u8], u8)>
-    ensures task { (make : List ℕ → ℕ → Task) → option_map (λ pair. make (percent_decode pair.0.now) pair.1) result ≡ key_and_stream make (key.now ∷ stream.now ∷ []) }
+    ensures task { (make : List ℕ → ℕ → Task) → task_on make result ≡ of_key_and_stream make key.now stream.now }
     ensures spelled { IfSome result (λ pair. key_field pair.0.now ≡ Ok (percent_decode pair.0.now)) }
 {
     let key = spelled_key(key)?;

@@ -2,7 +2,7 @@
 ghost use Rattle.std.specs.Prelude.{◌≡◌, IfErr, IfOk, IfSome, IsSome, is_some};
 ghost use Rattle.std.specs.Option.{option_map};
 ghost use Rattle.blk_args.specs.Tasks.{HasSpelledKey};
-ghost use Rattle.blk_args.specs.Words.{asked_by, at_most_once, bytes_of, invocation_of, words_ask};
+ghost use Rattle.blk_args.specs.Words.{asked_by, at_most_once, argument_bytes, invocation_of, words_ask};
 ghost use Rattle.blk_args.specs.Apart.{parts_in, value_in};
 
 use crate::apart::{Apart, take_apart};
@@ -34,9 +34,9 @@ pub struct Asked<'w> {
 /// The options `--max` and `--items` may come anywhere before an argument `--`, each once; after it all arguments are
 /// positional.
 pub fn read_words<'w>(alloc: Global, words: &'w [String]) -> Result<Option<Asked<'w>>, NoMemory>
-    ensures asks { IfOk result (λ asked. option_map invocation_of asked ≡ words_ask (bytes_of words.now)) }
+    ensures asks { IfOk result (λ asked. option_map invocation_of asked ≡ words_ask (argument_bytes words.now)) }
     ensures spelled { IfOk result (λ asked. IfSome asked (λ one. HasSpelledKey one.order)) }
-    ensures inside { IfErr result (λ _. IsSome (words_ask (bytes_of words.now))) }
+    ensures inside { IfErr result (λ _. IsSome (words_ask (argument_bytes words.now))) }
 {
     if !are_inside(words) {
         return Ok(None);
@@ -47,7 +47,7 @@ pub fn read_words<'w>(alloc: Global, words: &'w [String]) -> Result<Option<Asked
 
 // Whether the arguments are in the grammar.
 fn are_inside(words: &[String]) -> bool
-    ensures { result ≡ is_some (words_ask (bytes_of words.now)) }
+    ensures { result ≡ is_some (words_ask (argument_bytes words.now)) }
 {
     match take_apart(words) {
         Some(apart) => read_apart(apart).is_some(),

@@ -1,6 +1,6 @@
 // The first of the positional arguments.
 ghost use Rattle.std.specs.Prelude.{◌≡◌};
-ghost use Rattle.blk_args.specs.Tasks.{by_word, first_words};
+ghost use Rattle.blk_args.specs.Tasks.{verb_of_word, first_words};
 
 /// What the first positional argument names.
 #[derive(Clone, Copy)]
@@ -30,7 +30,7 @@ pub enum Verb {
 /// What a first argument names, if it is one.
 #[tactic(auto, unfolding(crate::specs::Tasks::first_words))]
 pub fn verb_of(word: &[u8]) -> Option<Verb>
-    ensures { result ≡ by_word word.now first_words }
+    ensures { result ≡ verb_of_word word.now first_words }
 {
     if word == b"session".as_slice() {
         Some(Verb::Session)

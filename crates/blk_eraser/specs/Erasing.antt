@@ -5,7 +5,7 @@ use Rattle.spec_image.specs.Bytes.{content, spliced, zeros}
 use Rattle.spec_image.specs.Image.{File, Index, Block, External, Image, byte, bytes_of, length_of}
 use Rattle.spec_image.specs.Steps.{TrailStep, SetLength, Delete, words}
 use Rattle.spec_image.specs.Order.{IsNextFile}
-use Rattle.spec_image.specs.Told.{Told, Applies}
+use Rattle.spec_image.specs.Told.{Told, Applies, MakesPartOf}
 use Rattle.spec_format.specs.Address.{header_size}
 use Rattle.spec_format.specs.BlockFiles.{most_blocks}
 use Rattle.spec_format.specs.Headers.{entry_size_of}
@@ -58,6 +58,30 @@ delete_steps image file = words file 0 (zeros (length_of image file)) ++ (Delete
 -- the steps that `steps` gives for the files were made, in an observable folder
 abbrev pub MakesSteps : Told → Told → (Image → List TrailStep) → Type 0
 MakesSteps old new steps = ForSome old.files (λ image. Applies old new (steps image))
+
+-- exactly the steps of a write to a file were made, in an observable folder
+abbrev pub WritesErasing : (old new : Told) → File → ℕ → List ℕ → Type 0
+WritesErasing old new file place bytes = MakesSteps old new (λ image. write_steps image file place bytes)
+
+-- a prefix of the steps of a write to a file was made, in an observable folder
+abbrev pub WritesErasingPrefix : (old new : Told) → File → ℕ → List ℕ → Type 0
+WritesErasingPrefix old new file place bytes = MakesPartOf old new (λ image. write_steps image file place bytes)
+
+-- exactly the steps of a change of a file's length were made, in an observable folder
+abbrev pub CutsErasing : (old new : Told) → File → ℕ → Type 0
+CutsErasing old new file n = MakesSteps old new (λ image. length_steps image file n)
+
+-- a prefix of the steps of a change of a file's length was made, in an observable folder
+abbrev pub CutsErasingPrefix : (old new : Told) → File → ℕ → Type 0
+CutsErasingPrefix old new file n = MakesPartOf old new (λ image. length_steps image file n)
+
+-- exactly the steps of a deletion of a file were made, in an observable folder
+abbrev pub DeletesErasing : (old new : Told) → File → Type 0
+DeletesErasing old new file = MakesSteps old new (λ image. delete_steps image file)
+
+-- a prefix of the steps of a deletion of a file was made, in an observable folder
+abbrev pub DeletesErasingPrefix : (old new : Told) → File → Type 0
+DeletesErasingPrefix old new file = MakesPartOf old new (λ image. delete_steps image file)
 
 -- the folder's next file after `after` is `next`, in an observable folder
 abbrev pub TellsNext : Told → Option File → Option File → Type 0

@@ -2,10 +2,10 @@
 ghost use Rattle.std.specs.Prelude.{◌≡◌, ◌≤◌, true, [], ◌∷◌, length, OnOk, OnErr, IfOk};
 ghost use Rattle.std.specs.Option.{ForSome, option_map};
 ghost use Rattle.spec_image.specs.Order.{IsAfter};
-ghost use Rattle.spec_image.specs.Told.{Applies, GivesBytes, MakesPartOf, Rises, Stays};
+ghost use Rattle.spec_image.specs.Told.{Applies, GivesBytes, Rises, Stays};
 ghost use Rattle.spec_image.specs.Steps.{Note};
 ghost use Rattle.blk_io.specs.FileNames.{file_of};
-ghost use Rattle.blk_eraser.specs.Erasing.{MakesSteps, TellsNext, delete_steps, length_steps, write_steps};
+ghost use Rattle.blk_eraser.specs.Erasing.{CutsErasing, CutsErasingPrefix, DeletesErasing, DeletesErasingPrefix, TellsNext, WritesErasing, WritesErasingPrefix};
 
 use crate::freeing::write_over;
 use crate::zeros::{cut, remove};
@@ -24,18 +24,18 @@ pub struct Eraser<F> {
 }
 
 impl<F: Folder> Eraser<F> {
-    ghost use Rattle.blk_eraser.specs.Eraser.{folder_of};
+    ghost use Rattle.blk_eraser.specs.Eraser.{inner_folder};
 
     /// An eraser over this folder.
     pub fn new(inner: F) -> Eraser<F>
-        ensures { folder_of result ≡ inner }
+        ensures { inner_folder result ≡ inner }
     {
         Eraser { inner, faults: 0 }
     }
 
     /// The folder inside.
     pub fn into_inner(self) -> F
-        ensures { result ≡ folder_of self }
+        ensures { result ≡ inner_folder self }
     {
         self.inner
     }
@@ -55,40 +55,40 @@ fn counted<T>(answer: Result<T, Failed>, faults: &mut u64) -> Result<T, Failed>
 
 impl<F: Folder> Folder for Eraser<F> {
     ghost use Rattle.blk_io.specs.Untold.{untold, untold_agrees, untold_bytes};
-    ghost use Rattle.blk_eraser.specs.Eraser.{faults_of, folder_of};
+    ghost use Rattle.blk_eraser.specs.Eraser.{eraser_faults, inner_folder};
 
     ghost told = { λ _. untold };
 
-    ghost faults = { faults_of };
+    ghost faults = { eraser_faults };
 
     ghost agrees = { λ folder. untold_agrees };
 
     ghost are_bytes = { λ folder. untold_bytes };
 
     fn length(&mut self, file: FileId) -> Result<Option<u64>, Failed>
-        ensures later { faults_of self.old ≤ faults_of self.new }
-        ensures failed { OnErr result (Rises (faults_of self.old) (faults_of self.new)) }
-        ensures inside { IfOk result (λ n. ForSome (F.told (folder_of self.old)).files (λ image. n ≡ option_map length (image (file_of file)))) }
-        ensures inside_stays { Stays (F.told (folder_of self.old)) (F.told (folder_of self.new)) }
+        ensures later { eraser_faults self.old ≤ eraser_faults self.new }
+        ensures failed { OnErr result (Rises (eraser_faults self.old) (eraser_faults self.new)) }
+        ensures inside { IfOk result (λ n. ForSome (F.told (inner_folder self.old)).files (λ image. n ≡ option_map length (image (file_of file)))) }
+        ensures inside_stays { Stays (F.told (inner_folder self.old)) (F.told (inner_folder self.new)) }
     {
         counted(self.inner.length(file), &mut self.faults)
     }
 
     fn read_at(&mut self, file: FileId, at: u64, out: &mut [u8]) -> Result<usize, Failed>
         ensures within { IfOk result (λ n. n ≤ length out.old) }
-        ensures later { faults_of self.old ≤ faults_of self.new }
-        ensures failed { OnErr result (Rises (faults_of self.old) (faults_of self.new)) }
-        ensures inside { IfOk result (λ n. ForSome (F.told (folder_of self.old)).files (λ image. GivesBytes image (file_of file) at out.old out.new n)) }
-        ensures inside_stays { Stays (F.told (folder_of self.old)) (F.told (folder_of self.new)) }
+        ensures later { eraser_faults self.old ≤ eraser_faults self.new }
+        ensures failed { OnErr result (Rises (eraser_faults self.old) (eraser_faults self.new)) }
+        ensures inside { IfOk result (λ n. ForSome (F.told (inner_folder self.old)).files (λ image. GivesBytes image (file_of file) at out.old out.new n)) }
+        ensures inside_stays { Stays (F.told (inner_folder self.old)) (F.told (inner_folder self.new)) }
     {
         counted(self.inner.read_at(file, at, out), &mut self.faults)
     }
 
     fn write_at(&mut self, file: FileId, at: u64, bytes: &[u8]) -> Result<(), Failed>
-        ensures later { faults_of self.old ≤ faults_of self.new }
-        ensures failed { OnErr result (Rises (faults_of self.old) (faults_of self.new)) }
-        ensures inside { OnOk result (MakesSteps (F.told (folder_of self.old)) (F.told (folder_of self.new)) (λ image. write_steps image (file_of file) at bytes.now)) }
-        ensures inside_part { MakesPartOf (F.told (folder_of self.old)) (F.told (folder_of self.new)) (λ image. write_steps image (file_of file) at bytes.now) }
+        ensures later { eraser_faults self.old ≤ eraser_faults self.new }
+        ensures failed { OnErr result (Rises (eraser_faults self.old) (eraser_faults self.new)) }
+        ensures inside { OnOk result (WritesErasing (F.told (inner_folder self.old)) (F.told (inner_folder self.new)) (file_of file) at bytes.now) }
+        ensures inside_part { WritesErasingPrefix (F.told (inner_folder self.old)) (F.told (inner_folder self.new)) (file_of file) at bytes.now }
     {
         counted(
             write_over(&mut self.inner, file, at, bytes),
@@ -97,29 +97,29 @@ impl<F: Folder> Folder for Eraser<F> {
     }
 
     fn set_len(&mut self, file: FileId, length: u64) -> Result<(), Failed>
-        ensures later { faults_of self.old ≤ faults_of self.new }
-        ensures failed { OnErr result (Rises (faults_of self.old) (faults_of self.new)) }
-        ensures inside { OnOk result (MakesSteps (F.told (folder_of self.old)) (F.told (folder_of self.new)) (λ image. length_steps image (file_of file) length)) }
-        ensures inside_part { MakesPartOf (F.told (folder_of self.old)) (F.told (folder_of self.new)) (λ image. length_steps image (file_of file) length) }
+        ensures later { eraser_faults self.old ≤ eraser_faults self.new }
+        ensures failed { OnErr result (Rises (eraser_faults self.old) (eraser_faults self.new)) }
+        ensures inside { OnOk result (CutsErasing (F.told (inner_folder self.old)) (F.told (inner_folder self.new)) (file_of file) length) }
+        ensures inside_part { CutsErasingPrefix (F.told (inner_folder self.old)) (F.told (inner_folder self.new)) (file_of file) length }
     {
         counted(cut(&mut self.inner, file, length), &mut self.faults)
     }
 
     fn delete(&mut self, file: FileId) -> Result<(), Failed>
-        ensures later { faults_of self.old ≤ faults_of self.new }
-        ensures failed { OnErr result (Rises (faults_of self.old) (faults_of self.new)) }
-        ensures inside { OnOk result (MakesSteps (F.told (folder_of self.old)) (F.told (folder_of self.new)) (λ image. delete_steps image (file_of file))) }
-        ensures inside_part { MakesPartOf (F.told (folder_of self.old)) (F.told (folder_of self.new)) (λ image. delete_steps image (file_of file)) }
+        ensures later { eraser_faults self.old ≤ eraser_faults self.new }
+        ensures failed { OnErr result (Rises (eraser_faults self.old) (eraser_faults self.new)) }
+        ensures inside { OnOk result (DeletesErasing (F.told (inner_folder self.old)) (F.told (inner_folder self.new)) (file_of file)) }
+        ensures inside_part { DeletesErasingPrefix (F.told (inner_folder self.old)) (F.told (inner_folder self.new)) (file_of file) }
     {
         counted(remove(&mut self.inner, file), &mut self.faults)
     }
 
     fn list(&mut self, after: Option<FileId>) -> Result<Option<FileId>, Failed>
         ensures after { IfOk result (λ next. ForSome next (λ file. IsAfter (option_map file_of after) (file_of file))) }
-        ensures later { faults_of self.old ≤ faults_of self.new }
-        ensures failed { OnErr result (Rises (faults_of self.old) (faults_of self.new)) }
-        ensures inside { IfOk result (λ next. TellsNext (F.told (folder_of self.old)) (option_map file_of after) (option_map file_of next)) }
-        ensures inside_stays { Stays (F.told (folder_of self.old)) (F.told (folder_of self.new)) }
+        ensures later { eraser_faults self.old ≤ eraser_faults self.new }
+        ensures failed { OnErr result (Rises (eraser_faults self.old) (eraser_faults self.new)) }
+        ensures inside { IfOk result (λ next. TellsNext (F.told (inner_folder self.old)) (option_map file_of after) (option_map file_of next)) }
+        ensures inside_stays { Stays (F.told (inner_folder self.old)) (F.told (inner_folder self.new)) }
     {
         counted(self.inner.list(after), &mut self.faults)
     }
@@ -131,10 +131,10 @@ impl<F: Folder> Folder for Eraser<F> {
     }
 
     fn note(&mut self, answered: u64) -> Result<(), Failed>
-        ensures later { faults_of self.old ≤ faults_of self.new }
-        ensures failed { OnErr result (Rises (faults_of self.old) (faults_of self.new)) }
-        ensures inside { OnOk result (Applies (F.told (folder_of self.old)) (F.told (folder_of self.new)) (Note answered ∷ [])) }
-        ensures inside_undone { OnErr result (Stays (F.told (folder_of self.old)) (F.told (folder_of self.new))) }
+        ensures later { eraser_faults self.old ≤ eraser_faults self.new }
+        ensures failed { OnErr result (Rises (eraser_faults self.old) (eraser_faults self.new)) }
+        ensures inside { OnOk result (Applies (F.told (inner_folder self.old)) (F.told (inner_folder self.new)) (Note answered ∷ [])) }
+        ensures inside_undone { OnErr result (Stays (F.told (inner_folder self.old)) (F.told (inner_folder self.new))) }
     {
         counted(self.inner.note(answered), &mut self.faults)
     }

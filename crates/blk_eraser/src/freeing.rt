@@ -6,7 +6,7 @@ ghost use Rattle.spec_image.specs.Told.{Applies, AppliesPrefix, MakesPartOf};
 ghost use Rattle.spec_format.specs.Address.{header_size};
 ghost use Rattle.spec_format.specs.BlockFiles.{most_blocks};
 ghost use Rattle.blk_io.specs.FileNames.{file_of};
-ghost use Rattle.blk_eraser.specs.Erasing.{IsBlockFile, MakesSteps, write_steps, zeros_over_block, zeros_over_freed, zeros_before_write};
+ghost use Rattle.blk_eraser.specs.Erasing.{IsBlockFile, MakesSteps, WritesErasing, WritesErasingPrefix, zeros_over_block, zeros_over_freed, zeros_before_write};
 
 use crate::map::{BITS_OF_BYTE, HEADER_LEN, MAP, block_size, is_freed, read_header, touches_map};
 use crate::zeros::{erase, length};
@@ -110,8 +110,8 @@ pub(crate) fn write_over<F: Folder>(
     at: u64,
     bytes: &[u8],
 ) -> Result<(), Failed>
-    ensures steps { OnOk result (MakesSteps (F.told folder.old) (F.told folder.new) (λ image. write_steps image (file_of file) at bytes.now)) }
-    ensures prefix { MakesPartOf (F.told folder.old) (F.told folder.new) (λ image. write_steps image (file_of file) at bytes.now) }
+    ensures steps { OnOk result (WritesErasing (F.told folder.old) (F.told folder.new) (file_of file) at bytes.now) }
+    ensures prefix { WritesErasingPrefix (F.told folder.old) (F.told folder.new) (file_of file) at bytes.now }
 {
     let long = length(folder, file)?;
     if at > long || bytes.len() as u64 > long - at {

@@ -4,9 +4,9 @@ ghost use Rattle.std.specs.Option.{ForSome};
 ghost use Rattle.spec_image.specs.Bytes.{zeros};
 ghost use Rattle.spec_image.specs.Image.{length_of};
 ghost use Rattle.spec_image.specs.Steps.{words};
-ghost use Rattle.spec_image.specs.Told.{Applies, AppliesPrefix, MakesPartOf, Stays};
+ghost use Rattle.spec_image.specs.Told.{Applies, AppliesPrefix, Stays};
 ghost use Rattle.blk_io.specs.FileNames.{file_of};
-ghost use Rattle.blk_eraser.specs.Erasing.{MakesSteps, delete_steps, length_steps};
+ghost use Rattle.blk_eraser.specs.Erasing.{CutsErasing, CutsErasingPrefix, DeletesErasing, DeletesErasingPrefix};
 
 use blk_io::{Failed, FileId, Folder};
 
@@ -59,8 +59,8 @@ pub(crate) fn erase<F: Folder>(
 
 /// Gives a file a length, after zeros over what that cuts off.
 pub(crate) fn cut<F: Folder>(folder: &mut F, file: FileId, to: u64) -> Result<(), Failed>
-    ensures steps { OnOk result (MakesSteps (F.told folder.old) (F.told folder.new) (λ image. length_steps image (file_of file) to)) }
-    ensures prefix { MakesPartOf (F.told folder.old) (F.told folder.new) (λ image. length_steps image (file_of file) to) }
+    ensures steps { OnOk result (CutsErasing (F.told folder.old) (F.told folder.new) (file_of file) to) }
+    ensures prefix { CutsErasingPrefix (F.told folder.old) (F.told folder.new) (file_of file) to }
 {
     let long = length(folder, file)?;
     erase(folder, file, to.min(long), long)?;
@@ -69,8 +69,8 @@ pub(crate) fn cut<F: Folder>(folder: &mut F, file: FileId, to: u64) -> Result<()
 
 /// Removes a file, after zeros over its bytes.
 pub(crate) fn remove<F: Folder>(folder: &mut F, file: FileId) -> Result<(), Failed>
-    ensures steps { OnOk result (MakesSteps (F.told folder.old) (F.told folder.new) (λ image. delete_steps image (file_of file))) }
-    ensures prefix { MakesPartOf (F.told folder.old) (F.told folder.new) (λ image. delete_steps image (file_of file)) }
+    ensures steps { OnOk result (DeletesErasing (F.told folder.old) (F.told folder.new) (file_of file)) }
+    ensures prefix { DeletesErasingPrefix (F.told folder.old) (F.told folder.new) (file_of file) }
 {
     let long = length(folder, file)?;
     erase(folder, file, 0, long)?;

@@ -40,8 +40,8 @@ abbrev pub with_outcome : Outcome → Counts → Counts
 with_outcome outcome counts = with_answer (answer_of outcome.reply) (evicted_items outcome) counts
 
 -- the counters as 64-bit numbers have them: each saturates
-abbrev pub held : Counts → Counts
-held counts = record {
+abbrev pub capped : Counts → Counts
+capped counts = record {
   commands = min counts.commands (2 ^ 64 - 1);
   refused = min counts.refused (2 ^ 64 - 1);
   evicted = min counts.evicted (2 ^ 64 - 1);

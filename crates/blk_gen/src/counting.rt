@@ -3,7 +3,7 @@ ghost use Rattle.std.specs.Prelude.{◌≡◌, ◌++◌, OnOk, OnErr};
 ghost use Rattle.std.specs.Option.{option_map};
 ghost use Rattle.spec_image.specs.Told.{Rises};
 ghost use Rattle.blk_io.specs.Streams.{Appends, GoesOn};
-ghost use Rattle.blk_gen.specs.Counting.{no_counts, held, with_answer, refusals_in, bytes_read, counts_line, AreLong};
+ghost use Rattle.blk_gen.specs.Counting.{no_counts, capped, with_answer, refusals_in, bytes_read, counts_line, AreLong};
 
 use blk_io::{Failed, Sink};
 use blk_model::Answer;
@@ -38,7 +38,7 @@ impl Counts {
 
     /// Counts a command, by its answer and by how many items it evicted. A count that comes to 2^64 - 1 stays there.
     pub fn count(&mut self, answer: &Answer, evicted: u64)
-        ensures held { self.new ≡ held (with_answer answer.now evicted self.old) }
+        ensures held { self.new ≡ capped (with_answer answer.now evicted self.old) }
         ensures exact { AreLong (with_answer answer.now evicted self.old) → self.new ≡ with_answer answer.now evicted self.old }
     {
         self.commands = self.commands.saturating_add(1);

@@ -5,6 +5,8 @@ use Rattle.std.specs.List.{list_any}
 use Rattle.blk_model.specs.Sizes.{handle_names}
 use Rattle.blk_model.specs.State.{is_number}
 use Rattle.blk_handles.specs.declared.open_object.OpenObject.{OpenObject}
+use Rattle.blk_handles.specs.declared.open_object.Released.{Released}
+use Rattle.blk_handles.specs.declared.open_object.Released.TheVariants as released
 
 -- the object that a handle names: the addresses of its record and its node, and whether it is doomed and dirty
 pub record Binding : Type 0 where
@@ -80,3 +82,7 @@ open_count bindings = distinct_count (entries_of bindings)
 -- an open object, as calls give it: with the number of its handles
 abbrev pub open_object : Bindings → Binding → OpenObject
 open_object bindings object = record { entry = object.entry; node = object.node; names = name_count bindings object.entry; doomed = object.doomed; dirty = object.dirty }
+
+-- what freeing a name of an object gives, of the bindings before and after: whether more names are bound to it, or the object as it was where it was the last
+abbrev pub released_of : (old new : Bindings) → Binding → Released
+released_of old new object = if is_open new object.entry then released.More else released.Last (open_object old object)

@@ -1,8 +1,8 @@
 // The handle names and what they are bound to.
-ghost use Rattle.std.specs.Prelude.{◌≡◌, ◌<◌, Some, None, IsSome, IfSome, IfOk, is_some, position, slice_set, slice_index_or, if◌then◌else◌};
+ghost use Rattle.std.specs.Prelude.{◌≡◌, ◌<◌, Some, None, IsSome, IfSome, IfOk, is_some, position, slice_set, slice_index_or};
 ghost use Rattle.std.specs.Option.{option_map, ForSome};
 ghost use Rattle.blk_model.specs.Sizes.{handle_names};
-ghost use Rattle.blk_handles.specs.Bindings.{AreShared, all_free, binding_of, is_open, open_with, binding_for, with_change, with_status, with_doom, open_count, open_object};
+ghost use Rattle.blk_handles.specs.Bindings.{AreShared, all_free, binding_of, is_open, open_with, binding_for, with_change, with_status, with_doom, open_count, open_object, released_of};
 
 use crate::objects::Objects;
 use crate::open_object::{OpenObject, Released};
@@ -139,7 +139,7 @@ impl Handles {
     pub fn release(&mut self, name: u16) -> Released
         requires bound { IsSome (binding_of self.old name) }
         ensures frees { self.new ≡ slice_set self.old name None }
-        ensures answer { IfSome (binding_of self.old name) (λ object. result ≡ (if is_open self.new object.entry then Released.More else Released.Last (open_object self.old object))) }
+        ensures answer { IfSome (binding_of self.old name) (λ object. result ≡ released_of self.old self.new object) }
         ensures shared { AreShared self.new }
     {
         let Some(key) = key_at(&self.names, name) else {

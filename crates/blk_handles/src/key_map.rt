@@ -1,5 +1,5 @@
 // A map from the records of open objects to the keys under which they are stored.
-ghost use Rattle.std.specs.Prelude.{◌≡◌, ◌≢◌, ℕ, ◌+◌, ◌<◌, [], length, Some, None, IsSome, IfOk, IfErr};
+ghost use Rattle.std.specs.Prelude.{◌≡◌, ◌+◌, ◌<◌, [], length, Some, None, IsSome, IfOk, IfErr};
 ghost use Rattle.blk_model.specs.Sizes.{handle_names};
 ghost use Rattle.blk_handles.specs.KeyMap.{key_for, IsAt, IsGapFor, SetsOnly};
 

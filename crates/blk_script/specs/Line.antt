@@ -1,12 +1,14 @@
 -- How a script line is parsed to a request.
-use Rattle.std.specs.Prelude.{ℕ, true, false, ◌==◌, nat_lt, if◌then◌else◌, List, [], ◌∷◌, length, codes, Result, Ok, Err}
+use Rattle.std.specs.Prelude.{◌≡◌, ℕ, ◌≤◌, true, false, ◌==◌, nat_lt, if◌then◌else◌, List, [], ◌∷◌, length, codes, Result, Ok, Err}
 use Rattle.std.specs.Str.{bytes_eq}
 use Rattle.blk_model.specs.Request.{Request, to_create, to_open, to_read, to_write, to_size, to_sparse_write, to_sparse_read, to_sparse_range, to_doom, to_doom_key, to_close, to_flush, to_list, to_trim, to_total}
 use Rattle.blk_script.specs.declared.fault.LineFault.{LineFault}
 use Rattle.blk_script.specs.declared.fault.LineFault.TheVariants as fault
 use Rattle.blk_script.specs.declared.words.Word.{Word}
 use Rattle.blk_script.specs.declared.words.Word.TheVariants as word
-use Rattle.blk_script.specs.Fields.{◌>>=◌, line_fields, number_field, data_field, key_field}
+use Rattle.blk_script.specs.declared.fields.Fields.{Fields}
+use Rattle.blk_script.specs.Fields.{◌>>=◌, fields_left, line_fields, longest_data, number_field, data_field, key_field}
+use Rattle.blk_script.specs.Spelling.{data_in, data_text, line_of}
 
 -- a field with the number of a handle (at most 65535 here; which ones name something is checked later)
 abbrev pub handle_field : List ℕ → Result ℕ LineFault
@@ -111,6 +113,14 @@ stream_and_data make h s o d = do
   bytes ← data_field d
   Ok (make handle stream offset bytes)
 
+-- the request that the fields left of a line give, if there are three, parsed by `read`
+abbrev pub three_left : (List ℕ → List ℕ → List ℕ → Result Request LineFault) → Fields → Result Request LineFault
+three_left read fields = three_fields read (fields_left fields)
+
+-- the request that the fields left of a line give, if there are four, parsed by `read`
+abbrev pub four_left : (List ℕ → List ℕ → List ℕ → List ℕ → Result Request LineFault) → Fields → Result Request LineFault
+four_left read fields = four_fields read (fields_left fields)
+
 -- how the fields after a command's word are parsed
 unfoldable pub reading : Word → List (List ℕ) → Result Request LineFault
 reading word.Create = two_fields (handle_and_key to_create)
@@ -171,3 +181,7 @@ read_text line =
     if nat_lt longest_line (length line) then Err fault.TooLong
     else if length line == 0 then Err fault.Empty
     else by_fields (line_fields line)
+
+-- the line of a request, if it and its data are not too long, is parsed to the same request
+abbrev pub IsReadAsPrinted : Request → Type 0
+IsReadAsPrinted request = length (line_of request) ≤ longest_line → length (data_text (data_in request)) ≤ longest_data → read_text (line_of request) ≡ Ok request

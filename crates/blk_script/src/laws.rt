@@ -1,14 +1,12 @@
 //! Laws of lines, each the contract of a function that does nothing.
-ghost use Rattle.std.specs.Prelude.{◌≡◌, ◌≤◌, ℕ, List, length, Ok, IfOk};
+ghost use Rattle.std.specs.Prelude.{ℕ, List, IfOk};
 ghost use Rattle.blk_model.specs.Request.{Request, IsRequest};
-ghost use Rattle.blk_script.specs.Fields.{longest_data};
-ghost use Rattle.blk_script.specs.Line.{longest_line, read_text};
-ghost use Rattle.blk_script.specs.Spelling.{line_of, data_text, data_in};
+ghost use Rattle.blk_script.specs.Line.{IsReadAsPrinted, read_text};
 ghost use Rattle.blk_model.specs.Items.{IsBytes};
 
 /// A command that is printed is read back as the same, where its line and its data are not too long.
 pub fn commands_are_read_as_printed()
-    ensures { (request : Request) → IsRequest request → length (line_of request) ≤ longest_line → length (data_text (data_in request)) ≤ longest_data → read_text (line_of request) ≡ Ok request }
+    ensures { (request : Request) → IsRequest request → IsReadAsPrinted request }
 {}
 
 /// The command that a line of bytes gives has numbers in the ranges of their types.

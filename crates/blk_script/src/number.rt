@@ -1,7 +1,6 @@
 // Numbers in decimal, as they are in fields.
-ghost use Rattle.std.specs.Prelude.{◌≡◌, ◌≤◌, ◌<◌, ◌^◌, true, MatchOption, IfOk};
-ghost use Rattle.std.specs.List.{list_all};
-ghost use Rattle.blk_script.specs.Fields.{is_decimal_digit, digits_say, begins_number, number_field};
+ghost use Rattle.std.specs.Prelude.{◌≡◌, ◌≤◌, ◌<◌, true, MatchOption, IfOk};
+ghost use Rattle.blk_script.specs.Fields.{IsNumberOf, IsTooGreat, begins_number, number_field};
 ghost use Rattle.blk_script.specs.Line.{handle_field, stream_field, count_field};
 
 use crate::LineFault;
@@ -19,7 +18,7 @@ fn begins_number(field: &[u8]) -> bool
 
 // What decimal digits say, where it fits.
 fn digits_value(field: &[u8]) -> Option<u64>
-    ensures { MatchOption result (list_all is_decimal_digit field.now ≡ true → 2 ^ 64 ≤ digits_say 0 field.now) (λ n. (list_all is_decimal_digit field.now ≡ true) × (digits_say 0 field.now ≡ n)) }
+    ensures { MatchOption result (IsTooGreat field.now) (IsNumberOf field.now) }
 {
     let mut value: u64 = 0;
     for byte in field {

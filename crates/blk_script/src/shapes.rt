@@ -61,7 +61,7 @@ pub fn handle_and_stream(fields: Fields) -> Result<(u16, u8), LineFault>
 
 /// A handle, an offset and a count.
 pub fn handle_and_range(fields: Fields) -> Result<(u16, u64, u64), LineFault>
-    ensures { (make : ℕ → ℕ → ℕ → Request) → given (λ p. make p.0 p.1 p.2) result ≡ spec.three_fields (spec.handle_and_range make) (fields_left fields.entry) }
+    ensures { (make : ℕ → ℕ → ℕ → Request) → given (λ p. make p.0 p.1 p.2) result ≡ spec.three_left (spec.handle_and_range make) fields.entry }
 {
     let (handle, offset, count) = fields.three()?;
     let handle = read_handle(handle)?;
@@ -76,7 +76,7 @@ pub fn handle_and_data<'a>(
     buffer: &'a mut [u8],
 ) -> Result<(u16, u64, &'a [u8]), LineFault>
     requires { length_left fields ≤ length buffer.old }
-    ensures { (make : ℕ → ℕ → List ℕ → Request) → given (λ p. make p.0 p.1 p.2.now) result ≡ spec.three_fields (spec.handle_and_data make) (fields_left fields.entry) }
+    ensures { (make : ℕ → ℕ → List ℕ → Request) → given (λ p. make p.0 p.1 p.2.now) result ≡ spec.three_left (spec.handle_and_data make) fields.entry }
 {
     let (handle, offset, data) = fields.three()?;
     let handle = read_handle(handle)?;
@@ -87,7 +87,7 @@ pub fn handle_and_data<'a>(
 
 /// A handle, a stream, an offset and a count.
 pub fn stream_and_range(fields: Fields) -> Result<(u16, u8, u64, u64), LineFault>
-    ensures { (make : ℕ → ℕ → ℕ → ℕ → Request) → given (λ p. make p.0 p.1 p.2 p.3) result ≡ spec.four_fields (spec.stream_and_range make) (fields_left fields.entry) }
+    ensures { (make : ℕ → ℕ → ℕ → ℕ → Request) → given (λ p. make p.0 p.1 p.2 p.3) result ≡ spec.four_left (spec.stream_and_range make) fields.entry }
 {
     let (handle, stream, offset, count) = fields.four()?;
     let handle = read_handle(handle)?;
@@ -103,7 +103,7 @@ pub fn stream_and_data<'a>(
     buffer: &'a mut [u8],
 ) -> Result<(u16, u8, u64, &'a [u8]), LineFault>
     requires { length_left fields ≤ length buffer.old }
-    ensures { (make : ℕ → ℕ → ℕ → List ℕ → Request) → given (λ p. make p.0 p.1 p.2 p.3.now) result ≡ spec.four_fields (spec.stream_and_data make) (fields_left fields.entry) }
+    ensures { (make : ℕ → ℕ → ℕ → List ℕ → Request) → given (λ p. make p.0 p.1 p.2 p.3.now) result ≡ spec.four_left (spec.stream_and_data make) fields.entry }
 {
     let (handle, stream, offset, data) = fields.four()?;
     let handle = read_handle(handle)?;

@@ -8,7 +8,7 @@ use Rattle.clap.specs.declared.builder.range.ValueRange.{ValueRange}
 use Rattle.clap.specs.Simple.{App, Shape, app_of, app_of_fields, is_simple, matches_of, new_app, on_top, subcommand_of, with_rule}
 use Rattle.clap.specs.Takes.{takes}
 use Rattle.blk_args.specs.Parsing.{option_rule, program, words_rule}
-use Rattle.blk_args.specs.Words.{bytes_of}
+use Rattle.blk_args.specs.Words.{argument_bytes}
 use Rattle.blk_args.proofs.Inside.{has_parts}
 use Rattle.blk_args.proofs.Taken.{takes_words, walk_of}
 use Rattle.blk_args.proofs.given.parse.Goals.{After-try_get_matches_from}
@@ -39,10 +39,10 @@ is_program c =
 
 pub returns-clause-matches : goal.returns-clause-matches
 returns-clause-matches c =
-    IfOk-weaker c.try_get_matches_from.result _ _ (λ m has simple. let parsed = has (ap is_simple (is_program c) ∙ simple) in (parsed.0 ∙ ap (λ (a : App). matches_of a (bytes_of c.args.words.now)) (is_program c), parsed.1 ∙ ap (λ (a : App). subcommand_of a (bytes_of c.args.words.now)) (is_program c))) c.try_get_matches_from.ensures.matches
+    IfOk-weaker c.try_get_matches_from.result _ _ (λ m has simple. let parsed = has (ap is_simple (is_program c) ∙ simple) in (parsed.0 ∙ ap (λ (a : App). matches_of a (argument_bytes c.args.words.now)) (is_program c), parsed.1 ∙ ap (λ (a : App). subcommand_of a (argument_bytes c.args.words.now)) (is_program c))) c.try_get_matches_from.ensures.matches
 
 pub returns-clause-wanting : goal.returns-clause-wanting
 returns-clause-wanting c =
-    let known = has_parts (bytes_of c.args.words.now) c.requires.inside in
-    let taken = takes_words (bytes_of c.args.words.now) known.parts (walk_of (bytes_of c.args.words.now) known.parts known.are known.inside) in
-    IfErr-weaker c.try_get_matches_from.result _ _ (λ e wants. wants (ap (λ (a : App). takes a (bytes_of c.args.words.now)) (is_program c) ∙ taken)) c.try_get_matches_from.ensures.passes
+    let known = has_parts (argument_bytes c.args.words.now) c.requires.inside in
+    let taken = takes_words (argument_bytes c.args.words.now) known.parts (walk_of (argument_bytes c.args.words.now) known.parts known.are known.inside) in
+    IfErr-weaker c.try_get_matches_from.result _ _ (λ e wants. wants (ap (λ (a : App). takes a (argument_bytes c.args.words.now)) (is_program c) ∙ taken)) c.try_get_matches_from.ensures.passes
