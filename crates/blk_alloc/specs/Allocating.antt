@@ -113,15 +113,15 @@ abbrev pub KeepsItsCount : BlockFiles → Image → Blocks → Image → Type 0
 KeepsItsCount files from place image =
     is_among (all_files files) place.file ≡ true → allocations_of (byte image (Block place.file)) ≡ allocations_of (byte from (Block place.file))
 
--- as many groups of it, of which all four blocks are free, are counted as it has by the table from these blocks on
+-- `empty` of that file counts as many groups, of which all four blocks are free, as the file has by the table from these blocks on
 abbrev pub CountsItsRoom : BlockFiles → Blocks → Image → Type 0
 CountsItsRoom files place image = CountsFreeGroups place.file ((blocks_of files place.file - place.start) / 4) image
 
--- if it was there, it was extended by the table
+-- that file, if it was there, has as many blocks in the table as an extension gives it
 abbrev pub IsExtendedIfThere : (old new : BlockFiles) → Blocks → Type 0
 IsExtendedIfThere old new place = is_among (all_files old) place.file ≡ true → blocks_of new place.file ≡ grown (blocks_of old place.file)
 
--- if it wasn't there, it has no allocations, `empty` agrees with its map, and its hints are 0
+-- that file, if it wasn't there, has no allocations, its `empty` agrees with its map, and its hints are 0
 abbrev pub IsFreshIfAdded : BlockFiles → Blocks → Image → Type 0
 IsFreshIfAdded files place image =
     is_among (all_files files) place.file ≡ false → AreAllocations image place.file [] × (EmptyAgrees image place.file × HasNoHints image place.file)
@@ -158,7 +158,7 @@ ExtendsOnly files kind from place image = ExtendsAnd updating_word files kind fr
 abbrev pub AllocatesIn : BlockFiles → ℕ → Image → ℕ → Image → Type 0
 AllocatesIn files kind from n image = SameOutside (taking_of n) from image ⊎ ExtendsAnd taking_of files kind from n image
 
--- blocks of the file of address w are allocated
+-- blocks of the file of address w are allocated, as AllocatesIn says of that file
 abbrev pub AllocatesWithin : BlockFiles → ℕ → Image → ℕ → Image → Type 0
 AllocatesWithin files kind from w image = AllocatesIn files kind from (file_selector w) image
 
@@ -235,7 +235,7 @@ abbrev pub PassesToAllocated : (old new : Told) → BlockFiles → (kind count :
 PassesToAllocated old new files kind count =
     ForSome old.files (λ from. AreCounted files kind from → PassesTo old new (AllocatesInProgress files kind count from) (AllocatesOrStops files kind count from))
 
--- where the answer is Ok and the files of a kind are counted, the folder that is left is in relation P, of these files and the answer, to the one before
+-- where the answer is Ok and the files of a kind are counted, P relates the folder before the call, the answer and the folder that the call leaves
 abbrev pub OkLeavesCounted : {A E : Type 0} → Result A E → (old new : Told) → BlockFiles → (kind : ℕ) → (P : BlockFiles → ℕ → Image → A → Image → Type 0) → Type 0
 OkLeavesCounted result old new files kind P =
     IfOk result (λ answer. ForSome old.files (λ from. AreCounted files kind from → ForSome new.files (P files kind from answer)))

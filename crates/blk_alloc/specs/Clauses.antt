@@ -17,11 +17,11 @@ use Rattle.blk_alloc.specs.Rebuilding.{AreCountsRead, AreHeaderBytes, HasMarksOf
 
 -- Answers.
 
--- where the answer is Ok, the folder that the call leaves is in relation P, which the answer is a part of, to the one before
+-- where the answer is Ok, P relates the folder before the call, the answer and the folder that the call leaves
 abbrev pub OkLeaves : {A E : Type 0} → Result A E → (old new : Told) → (P : Image → A → Image → Type 0) → Type 0
 OkLeaves result old new P = IfOk result (λ answer. ForSome old.files (λ from. ForSome new.files (P from answer)))
 
--- and so where C holds of the folder before the call
+-- and this is said only where C holds of the folder before the call
 abbrev pub OkLeavesWhere : {A E : Type 0} → Result A E → (old new : Told) → (C : Image → Type 0) → (P : Image → A → Image → Type 0) → Type 0
 OkLeavesWhere result old new C P = IfOk result (λ answer. ForSome old.files (λ from. C from → ForSome new.files (P from answer)))
 

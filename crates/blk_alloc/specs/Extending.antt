@@ -26,7 +26,7 @@ HasNoHints image n = (i : ℕ) → i < 4 → hints_of (byte image (Block n)) i �
 abbrev pub CountsFreeGroups : (n count : ℕ) → Image → Type 0
 CountsFreeGroups n count image = empty_of (byte image (Block n)) 3 ≡ count
 
--- and these are those that it counted before an extension, with the groups that the extension gives
+-- `empty` of file n counts those that it counted before, and the groups that an extension gives
 abbrev pub RaisesFreeGroups : BlockFiles → (n : ℕ) → Image → Image → Type 0
 RaisesFreeGroups files n from image = CountsFreeGroups n (raised from n (new_groups (blocks_of files n))) image
 
