@@ -1,10 +1,10 @@
 -- Allocation of blocks: in the first file of a kind that has free space by its counters; where none has, in a file that is extended; where none may be, in one
 -- that is added.
-use Rattle.std.specs.Prelude.{◌≡◌, ◌≢◌, ◌⊎◌, ℕ, ◌+◌, ◌-◌, ◌/◌, ◌%◌, ◌<◌, ◌≤◌, List, [], ◌∷◌, length, slice_get, true, false, if◌then◌else◌, Some}
+use Rattle.std.specs.Prelude.{◌≡◌, ◌≢◌, ◌⊎◌, ℕ, ◌+◌, ◌-◌, ◌/◌, ◌%◌, ◌<◌, ◌≤◌, List, [], ◌∷◌, length, slice_get, true, false, if◌then◌else◌, Some, IfOk, Result}
 use Rattle.std.specs.List.{All, sum_by}
 use Rattle.std.specs.Option.{ForSome}
 use Rattle.spec_image.specs.Image.{Block, Image, byte, length_of, word}
-use Rattle.spec_image.specs.Told.{Stays, Told}
+use Rattle.spec_image.specs.Told.{PassesTo, Stays, Told}
 use Rattle.spec_image.specs.Footprint.{Footprint, SameOutside, either, one_word}
 use Rattle.spec_format.specs.Address.{file_selector, first_block, block_word, header_size}
 use Rattle.spec_format.specs.Headers.{allocations_of, hints_of, updating_of, updating_place}
@@ -21,7 +21,7 @@ use Rattle.blk_alloc.specs.Counting.{IsCounted}
 use Rattle.blk_alloc.specs.Owning.{is_of, IsCause}
 use Rattle.blk_alloc.specs.Fitting.{HasNoRoom, IsByHint, IsFit, IsPlace, IsFittingDamage, IsGroupSought}
 use Rattle.blk_alloc.specs.Marking.{hints_and_updating, taking_of, CanBeMarked, MarksUsed, MarksUsedInProgress}
-use Rattle.blk_alloc.specs.Extending.{HasMostBlocks, HasNoHints, IsFirstGrowing, KeepsFiles, KeepsMarks}
+use Rattle.blk_alloc.specs.Extending.{HasMostBlocks, HasNoHints, IsFirstGrowing, KeepsFiles, KeepsMarks, CountsFreeGroups}
 
 -- Preconditions on the files of a kind.
 
@@ -53,6 +53,10 @@ pub record IsAddedPlace (files : BlockFiles) (kind : ℕ) (place : Blocks) : Typ
   pub few : length (files_of files kind) < most_files
   pub least : IsLeastFileNumber files place.file
   pub start : place.start ≡ 0
+
+-- the blocks at `place` are the first new ones of a file that is extended, or of one that is added
+abbrev pub IsNewRoom : BlockFiles → (kind : ℕ) → Blocks → Type 0
+IsNewRoom files kind place = IsGrownRoom files kind place ⊎ IsAddedPlace files kind place
 
 -- no file of a kind has space for so many blocks
 abbrev pub HaveNoRoom : BlockFiles → ℕ → ℕ → Image → Type 0
@@ -90,8 +94,8 @@ LiesAtHint old new kind count from w =
     ⊎ ((i : ℕ) × IsFoundBy old kind count from w i × (first_block w / group_size ≡ hints_of (byte from (Block (file_selector w))) i % groups_of (blocks_of new (file_selector w))))
 
 -- the most map words that a search in a file reads: all of its own, and one of them again where the search wraps around
-abbrev pub most_words : BlockFiles → ℕ → ℕ
-most_words files n = blocks_of files n / 32 + 1
+abbrev pub most_map_words : BlockFiles → ℕ → ℕ
+most_map_words files n = blocks_of files n / 32 + 1
 
 -- How the files change.
 
@@ -103,6 +107,24 @@ pub record Extends (files : BlockFiles) (from : Image) (place : Blocks) (image :
   pub marks : KeepsMarks files from image
   pub fresh : is_among (all_files files) place.file ≡ false → AreAllocations image place.file []
   pub hints : is_among (all_files files) place.file ≡ false → HasNoHints image place.file
+
+-- the file of the blocks at `place`, if it was there, has as many allocations as before
+abbrev pub KeepsItsCount : BlockFiles → Image → Blocks → Image → Type 0
+KeepsItsCount files from place image =
+    is_among (all_files files) place.file ≡ true → allocations_of (byte image (Block place.file)) ≡ allocations_of (byte from (Block place.file))
+
+-- `empty` of that file counts as many groups, of which all four blocks are free, as the file has by the table from these blocks on
+abbrev pub CountsItsRoom : BlockFiles → Blocks → Image → Type 0
+CountsItsRoom files place image = CountsFreeGroups place.file ((blocks_of files place.file - place.start) / 4) image
+
+-- that file, if it was there, has as many blocks in the table as an extension gives it
+abbrev pub IsExtendedIfThere : (old new : BlockFiles) → Blocks → Type 0
+IsExtendedIfThere old new place = is_among (all_files old) place.file ≡ true → blocks_of new place.file ≡ grown (blocks_of old place.file)
+
+-- that file, if it wasn't there, has no allocations, its `empty` agrees with its map, and its hints are 0
+abbrev pub IsFreshIfAdded : BlockFiles → Blocks → Image → Type 0
+IsFreshIfAdded files place image =
+    is_among (all_files files) place.file ≡ false → AreAllocations image place.file [] × (EmptyAgrees image place.file × HasNoHints image place.file)
 
 -- the blocks of address w are allocated: they were free and are marked now, and no other mark of a file that was there has changed; w is one more allocation of
 -- its file, the counters agree, updating is 0, and a file that wasn't there has all hints 0
@@ -118,21 +140,33 @@ pub record Allocates (files : BlockFiles) (from : Image) (w : ℕ) (image : Imag
 
 -- Footprints.
 
+-- the word `updating` in the header of a file
+abbrev pub updating_word : ℕ → Footprint
+updating_word n = one_word (Block n) updating_place
+
 -- a file was extended, and `more` of it may have changed: the first that may be extended; or a new one, added and then extended, where none may
 abbrev pub ExtendsAnd : (ℕ → Footprint) → BlockFiles → ℕ → Image → ℕ → Image → Type 0
 ExtendsAnd more files kind from n image =
     (IsFirstGrowing files (files_of files kind) n × SameOutside (either (growth_of n) (more n)) from image)
     ⊎ (All (HasMostBlocks files) (files_of files kind) × (n ≡ free_number files) × SameOutside (either (addition_of files kind) (either (growth_of n) (more n))) from image)
 
+-- the file of the blocks at `place` was extended or added, and nothing else has changed but its updating
+abbrev pub ExtendsOnly : BlockFiles → ℕ → Image → Blocks → Image → Type 0
+ExtendsOnly files kind from place image = ExtendsAnd updating_word files kind from place.file image
+
 -- blocks of file n are allocated: nothing but its length, map, counters and hints has changed, and where it was extended or added what that touches
 abbrev pub AllocatesIn : BlockFiles → ℕ → Image → ℕ → Image → Type 0
 AllocatesIn files kind from n image = SameOutside (taking_of n) from image ⊎ ExtendsAnd taking_of files kind from n image
 
--- What holds after each single write.
+-- blocks of the file of address w are allocated, as AllocatesIn says of that file
+abbrev pub AllocatesWithin : BlockFiles → ℕ → Image → ℕ → Image → Type 0
+AllocatesWithin files kind from w image = AllocatesIn files kind from (file_selector w) image
 
--- the word `updating` in the header of a file
-abbrev pub updating_word : ℕ → Footprint
-updating_word n = one_word (Block n) updating_place
+-- the blocks of address w are allocated, in a file that was extended or added
+abbrev pub AllocatesInNew : BlockFiles → ℕ → Image → ℕ → Image → Type 0
+AllocatesInNew files kind from w image = Allocates files from w image × ExtendsAnd taking_of files kind from (file_selector w) image
+
+-- What holds after each single write.
 
 -- a file is being extended, or added and extended: nothing but what that touches and its `updating` has changed, block files have grown at most, and the
 -- headers are kept
@@ -153,6 +187,14 @@ pub record ExtendsAndAllocates (files : BlockFiles) (kind count : ℕ) (from ima
   pub room : IsGrownPlace files kind count from place ⊎ IsAddedPlace files kind place
   pub within : ExtendsAnd taking_of files kind from place.file image
   pub allocates : Allocates files from (block_word kind place.file place.start count) image
+
+-- a file is being extended or added, and blocks of it marked; block files have grown at most and the headers are kept
+abbrev pub AllocatesNewInProgress : BlockFiles → ℕ → Image → Image → Type 0
+AllocatesNewInProgress files kind from image = ExtendsInProgress files kind from image × StaysWhole from image
+
+-- this is done, or it broke off at some write before its last
+abbrev pub AllocatesNewOrStops : BlockFiles → (kind count : ℕ) → Image → Image → Type 0
+AllocatesNewOrStops files kind count from image = (ExtendsInProgress files kind from image ⊎ ExtendsAndAllocates files kind count from image) × StaysWhole from image
 
 -- a stage of an allocation: nothing has changed; or blocks of the first file with space are being marked; or no file of the kind has space, and one is being
 -- extended or added, and blocks of it marked
@@ -183,6 +225,21 @@ pub record AllocatesAtLast (files : BlockFiles) (kind count : ℕ) (from image :
 abbrev pub AllocatesOrStops : BlockFiles → ℕ → ℕ → Image → Image → Type 0
 AllocatesOrStops files kind count from image = AllocatesInProgress files kind count from image ⊎ AllocatesAtLast files kind count from image
 
+-- where the files of a kind are counted, an allocation in a new or extended file is in progress before each step, and after the last it is done or broke off
+abbrev pub PassesToAllocatedNew : (old new : Told) → BlockFiles → (kind count : ℕ) → Type 0
+PassesToAllocatedNew old new files kind count =
+    ForSome old.files (λ from. AreCounted files kind from → PassesTo old new (AllocatesNewInProgress files kind from) (AllocatesNewOrStops files kind count from))
+
+-- where the files of a kind are counted, an allocation is in progress before each step, and after the last it is done or broke off
+abbrev pub PassesToAllocated : (old new : Told) → BlockFiles → (kind count : ℕ) → Type 0
+PassesToAllocated old new files kind count =
+    ForSome old.files (λ from. AreCounted files kind from → PassesTo old new (AllocatesInProgress files kind count from) (AllocatesOrStops files kind count from))
+
+-- where the answer is Ok and the files of a kind are counted, P relates the folder before the call, the answer and the folder that the call leaves
+abbrev pub OkLeavesCounted : {A E : Type 0} → Result A E → (old new : Told) → BlockFiles → (kind : ℕ) → (P : BlockFiles → ℕ → Image → A → Image → Type 0) → Type 0
+OkLeavesCounted result old new files kind P =
+    IfOk result (λ answer. ForSome old.files (λ from. AreCounted files kind from → ForSome new.files (P files kind from answer)))
+
 -- num_entries of the file of address w counts one allocation more, whether or not its counters agreed with its map; of a new file nothing is said
 abbrev pub IsCountedOnce : BlockFiles → Image → ℕ → Image → Type 0
 IsCountedOnce files from w image = is_among (all_files files) (file_selector w) ≡ true → IsCounted true (allocations_of (byte from (Block (file_selector w)))) (allocations_of (byte image (Block (file_selector w))))
@@ -192,6 +249,10 @@ IsCountedOnce files from w image = is_among (all_files files) (file_selector w) 
 -- the offset of the last word of a block file's map
 abbrev pub last_place : ℕ
 last_place = header_size - 4
+
+-- a kind has 60 files, the most, and each has the most blocks
+abbrev pub IsFullKind : BlockFiles → (kind : ℕ) → Type 0
+IsFullKind files kind = All (HasMostBlocks files) (files_of files kind) × (most_files ≤ length (files_of files kind))
 
 -- a kind has 60 files, the most, and each has the most blocks: the error has the last word of the last file's map (which was the last word read)
 pub record IsKindFull (files : BlockFiles) (kind : ℕ) (told : Told) (damage : Damage) : Type 0 where

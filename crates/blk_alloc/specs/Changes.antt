@@ -77,3 +77,7 @@ pub record IsChanged (from : Image) (n start count : ℕ) (used : Bool) (image :
       ≡ empty_of (byte from (Block n)) i + counted (longest_run (is_block_marked image n) (start / 4)) i
   pub empty : HasBlocks from n start count → EmptyAgrees from n → EmptyAgrees image n
   pub updating : updating_of (byte image (Block n)) ≡ 0
+
+-- a change is done, or it broke off at some write before its last
+abbrev pub ChangesOrStops : (n start count : ℕ) (used : Bool) → Image → Image → Type 0
+ChangesOrStops n start count used from image = IsMapInProgress n from image ⊎ IsChanged from n start count used image

@@ -2,12 +2,13 @@
 use Rattle.std.specs.Prelude.{◌≡◌, ◌≢◌, ℕ, ◌<◌, List, true, ◌≤◌, ◌++◌, ◌∷◌, Option, None, Some}
 use Rattle.std.specs.List.{All}
 use Rattle.spec_image.specs.Image.{Block, Image, byte}
-use Rattle.spec_format.specs.Headers.{allocations_of, hints_of}
+use Rattle.spec_image.specs.Footprint.{Footprint, either}
+use Rattle.spec_format.specs.Headers.{allocations_of, empty_of, hints_of}
 use Rattle.spec_format.specs.BlockFiles.{is_among, most_blocks}
 use Rattle.spec_format.specs.Maps.{is_block_marked, AreAllocations, EmptyAgrees, KeepsFile}
 use Rattle.blk_disk.specs.declared.tables.BlockFiles.{BlockFiles}
 use Rattle.blk_disk.specs.Tables.{all_files, blocks_of, files_of, length_in, stands_among}
-use Rattle.blk_disk.specs.Growth.{whole_length}
+use Rattle.blk_disk.specs.Growth.{addition_of, free_number, growth_of, new_groups, raised, whole_length}
 use Rattle.blk_alloc.specs.Counting.{largest}
 
 -- the counters of file n agree with its map and a list of its allocations, and num_entries may rise by one
@@ -20,6 +21,14 @@ pub record HasCounters (image : Image) (n : ℕ) : Type 0 where
 -- the four hints of a file are 0
 abbrev pub HasNoHints : Image → ℕ → Type 0
 HasNoHints image n = (i : ℕ) → i < 4 → hints_of (byte image (Block n)) i ≡ 0
+
+-- `empty` of file n counts so many groups of which all four blocks are free
+abbrev pub CountsFreeGroups : (n count : ℕ) → Image → Type 0
+CountsFreeGroups n count image = empty_of (byte image (Block n)) 3 ≡ count
+
+-- `empty` of file n counts those that it counted before, and the groups that an extension gives
+abbrev pub RaisesFreeGroups : BlockFiles → (n : ℕ) → Image → Image → Type 0
+RaisesFreeGroups files n from image = CountsFreeGroups n (raised from n (new_groups (blocks_of files n))) image
 
 -- each file of the table keeps its hints
 abbrev pub KeepsHintsOf : BlockFiles → Image → Image → Type 0
@@ -73,3 +82,7 @@ pub record IsFirstGrowing (files : BlockFiles) (list : List ℕ) (n : ℕ) : Typ
 abbrev pub IsGrowing : BlockFiles → List ℕ → Option ℕ → Type 0
 IsGrowing files list None = All (HasMostBlocks files) list
 IsGrowing files list (Some n) = IsFirstGrowing files list n
+
+-- the frame of adding a file of a kind, with the least free number, and extending it
+abbrev pub new_room_of : BlockFiles → (kind : ℕ) → Footprint
+new_room_of files kind = either (addition_of files kind) (growth_of (free_number files))

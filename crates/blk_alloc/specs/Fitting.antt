@@ -1,5 +1,5 @@
 -- Where blocks are allocated: the first file of a kind with space by its counters, and in it the group to which its hints lead.
-use Rattle.std.specs.Prelude.{◌≡◌, ◌≢◌, ◌⊎◌, ℕ, ◌+◌, ◌*◌, ◌/◌, ◌%◌, ◌<◌, ◌≤◌, Bool, List, ◌∷◌, ◌++◌, true}
+use Rattle.std.specs.Prelude.{◌≡◌, ◌≢◌, ◌⊎◌, ℕ, ◌+◌, ◌*◌, ◌/◌, ◌%◌, ◌<◌, ◌≤◌, Bool, List, ◌∷◌, ◌++◌, true, slice_index}
 use Rattle.std.specs.List.{All}
 use Rattle.std.specs.Option.{ForSome}
 use Rattle.spec_image.specs.Bytes.{range_at, word_bytes}
@@ -14,6 +14,8 @@ use Rattle.blk_io.specs.Faults.{IsShort}
 use Rattle.blk_disk.specs.declared.tables.BlockFiles.{BlockFiles}
 use Rattle.blk_disk.specs.Tables.{blocks_of, files_of}
 use Rattle.blk_alloc.specs.declared.blocks.Blocks.{Blocks}
+use Rattle.blk_alloc.specs.declared.blocks.Found.{Found}
+use Rattle.blk_alloc.specs.declared.searching.Group.{Group}
 use Rattle.blk_alloc.specs.Places.{is_place, AreNoPlaces}
 
 -- Which file.
@@ -29,6 +31,10 @@ pub record IsGroupSought (image : Image) (n count i : ℕ) : Type 0 where
   pub enough : count ≤ i + 1
   pub counted : 0 < empty_of (byte image (Block n)) i
   pub least : (j : ℕ) → j < i → count ≤ j + 1 → empty_of (byte image (Block n)) j ≡ 0
+
+-- word i of `empty` is the first, from the one for runs of `count` blocks on, that counts a group
+abbrev pub IsLeastCounted : (empty : List ℕ) (count i : ℕ) → Type 0
+IsLeastCounted empty count i = (i < 4) × (count ≤ i + 1) × (0 < slice_index empty i) × ((j : ℕ) → j < i → count ≤ j + 1 → slice_index empty j ≡ 0)
 
 -- Which group.
 
@@ -49,12 +55,44 @@ pub record IsLeastOfGroup (marked : ℕ → Bool) (count start : ℕ) : Type 0 w
   pub place : is_place marked count start ≡ true
   pub least : AreNoPlaces marked count (group_size * (start / group_size)) start
 
+-- no group of file n, of those that it has by the table, has `run` blocks as its longest free run
+abbrev pub HasNoRun : BlockFiles → (n run : ℕ) → Image → Type 0
+HasNoRun files n run image = (g : ℕ) → g < groups_of (blocks_of files n) → longest_run (is_block_marked image n) g ≢ run
+
+-- the number of a group in its file
+abbrev pub group_number : Group → ℕ
+group_number group = 8 * group.number + group.place
+
+-- it is a group of file n by the table
+abbrev pub IsGroupOf : BlockFiles → (n : ℕ) → Group → Type 0
+IsGroupOf files n group = (group.place < 8) × (group_number group < groups_of (blocks_of files n))
+
+-- it is the group of file n that the hint names, modulo the number of groups
+abbrev pub IsHintedGroup : BlockFiles → (n hint : ℕ) → Group → Type 0
+IsHintedGroup files n hint group = group_number group ≡ hint % groups_of (blocks_of files n)
+
+-- it is the first group of file n whose longest free run is `run` blocks, in a search from the hint on and around the end
+abbrev pub IsMetFirst : BlockFiles → (n hint run : ℕ) → Group → Image → Type 0
+IsMetFirst files n hint run group image = IsFirstMet (is_block_marked image n) (groups_of (blocks_of files n)) hint run (group_number group)
+
 -- the blocks from `start` on are those to which hint i leads in file n: in the first group, from the hint on, whose longest free run is i + 1, and as near its
 -- start as they fit
 pub record IsByHint (image : Image) (n groups count i start : ℕ) : Type 0 where
   pub there : start / group_size < groups
   pub first : IsFirstMet (is_block_marked image n) groups (hints_of (byte image (Block n)) i) (i + 1) (start / group_size)
   pub least : IsLeastOfGroup (is_block_marked image n) count start
+
+-- the blocks from `start` on lie in the very group that hint i of file n names, modulo the number of groups that it has by the table
+abbrev pub IsAtHint : BlockFiles → (n i start : ℕ) → Image → Type 0
+IsAtHint files n i start image = start / group_size ≡ hints_of (byte image (Block n)) i % groups_of (blocks_of files n)
+
+-- the blocks that were found are those to which hint i of file n leads
+abbrev pub IsFoundByHint : BlockFiles → (n count i : ℕ) → Found → Image → Type 0
+IsFoundByHint files n count i found image = IsByHint image n (groups_of (blocks_of files n)) count i found.place.start
+
+-- file n has space, and the blocks that were found are those to which its counters and hints lead
+abbrev pub IsFoundIn : BlockFiles → (n count : ℕ) → Found → Image → Type 0
+IsFoundIn files n count found image = IsGroupSought image n count found.i × IsByHint image n (groups_of (blocks_of files n)) count found.i found.place.start
 
 -- the first file of the list that has space gives the blocks at `place`, to which its counters and hints lead
 pub record IsFit (image : Image) (files : List ℕ) (count : ℕ) (place : Blocks) : Type 0 where
@@ -82,6 +120,10 @@ pub record IsPlace (files : BlockFiles) (kind count : ℕ) (place : Blocks) : Ty
 abbrev pub IsMapWord : Image → (n number word : ℕ) → Type 0
 IsMapWord image n number w = word_bytes w ≡ range_at (byte image (Block n)) (map_place + 4 * number) 4
 
+-- the word that was read with the blocks that were found is that of the map of file n that has them
+abbrev pub HasMapWord : (n : ℕ) → Found → Image → Type 0
+HasMapWord n found image = IsMapWord image n (found.place.start / 32) found.word
+
 -- the offset of hint i in a header
 abbrev pub hint_place : ℕ → ℕ
 hint_place i = 40 + 4 * i
@@ -108,7 +150,7 @@ pub record IsMiscount (files : BlockFiles) (n : ℕ) (told : Told) (damage : Dam
   pub at : damage.at ≡ empty_place i
   pub counts : 0 < damage.found
   pub found : ForSome told.files (λ image. damage.found ≡ empty_of (byte image (Block n)) i)
-  pub none : ForSome told.files (λ image. (g : ℕ) → g < groups_of (blocks_of files n) → longest_run (is_block_marked image n) g ≢ i + 1)
+  pub none : ForSome told.files (HasNoRun files n (i + 1))
 
 -- why a search for blocks in some file of a kind failed: a read gave too few bytes, or `empty` counts a group that the map doesn't have
 pub record IsFittingDamage (files : BlockFiles) (kind : ℕ) (told : Told) (damage : Damage) : Type 0 where

@@ -8,4 +8,5 @@ pub mod Extending
 pub mod Mending
 pub mod Allocating
 pub mod Rebuilding
+pub mod Clauses
 pub mod Laws

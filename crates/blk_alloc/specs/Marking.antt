@@ -1,14 +1,17 @@
 -- Blocks of a file come into use: the file is lengthened to its blocks, and the blocks are marked.
 use Rattle.std.specs.Prelude.{◌≡◌, ◌≢◌, ◌⊎◌, ℕ, ◌+◌, ◌/◌, ◌<◌, ◌≤◌, List, ◌∷◌, true, false, if◌then◌else◌}
+use Rattle.std.specs.Option.{ForSome}
 use Rattle.spec_image.specs.Image.{Block, Image, byte, length_of}
+use Rattle.spec_image.specs.Told.{PassesTo, Told}
 use Rattle.spec_image.specs.Footprint.{Footprint, SameOutside, either, one_word, range, size_of}
-use Rattle.spec_format.specs.Address.{file_selector}
+use Rattle.spec_format.specs.Address.{block_word, file_selector}
 use Rattle.spec_format.specs.Headers.{allocations_of, empty_of, hints_of, updating_of, updating_place}
 use Rattle.spec_format.specs.BlockFiles.{is_among, most_blocks}
-use Rattle.spec_format.specs.Maps.{is_block_marked, are_free, longest_run, AreAllocations, EmptyAgrees}
+use Rattle.spec_format.specs.Maps.{is_block_marked, are_free, group_size, longest_run, AreAllocations, EmptyAgrees}
 use Rattle.blk_disk.specs.declared.tables.BlockFiles.{BlockFiles}
 use Rattle.blk_disk.specs.Tables.{all_files}
 use Rattle.blk_alloc.specs.declared.blocks.Blocks.{Blocks}
+use Rattle.blk_alloc.specs.declared.blocks.Found.{Found}
 use Rattle.blk_alloc.specs.Changes.{map_of, CanChangeMarks}
 use Rattle.blk_alloc.specs.Fitting.{hint_place}
 use Rattle.blk_alloc.specs.Counting.{counted, IsCounted}
@@ -71,3 +74,26 @@ pub record HasHint (n i number : ℕ) (from image : Image) : Type 0 where
 pub record HasHintAmong (n i number : ℕ) (from image : Image) : Type 0 where
   pub set : hints_of (byte image (Block n)) i ≡ number
   pub others : (m j : ℕ) → j < 4 → (m ≢ n) ⊎ (j ≢ i) → hints_of (byte image (Block m)) j ≡ hints_of (byte from (Block m)) j
+
+-- What a call does that takes blocks.
+
+-- blocks of a kind were marked, and no hint has changed; or the marking broke off at some write before its last
+abbrev pub MarksOrStops : BlockFiles → (kind : ℕ) → Blocks → Image → Image → Type 0
+MarksOrStops files kind place from image =
+    MarksUsedInProgress place.file from image ⊎ (MarksUsed files from (block_word kind place.file place.start place.count) image × KeepsHints from image)
+
+-- where the blocks may be marked, they are being marked before each step, and after the last it is done or broke off
+abbrev pub PassesToMarked : (old new : Told) → BlockFiles → (kind : ℕ) → Blocks → Type 0
+PassesToMarked old new files kind place =
+    ForSome old.files (λ from. CanBeMarked from place → PassesTo old new (MarksUsedInProgress place.file from) (MarksOrStops files kind place from))
+
+-- blocks of a kind that were found were marked, and the hint that led to them is the number of their group; or this broke off at some write before its last
+abbrev pub TakesOrStops : BlockFiles → (kind : ℕ) → Found → Image → Image → Type 0
+TakesOrStops files kind found from image =
+    MarksUsedInProgress found.place.file from image
+    ⊎ (MarksUsed files from (block_word kind found.place.file found.place.start found.place.count) image × HasHintAmong found.place.file found.i (found.place.start / group_size) from image)
+
+-- where the blocks that were found may be marked, they are being taken before each step, and after the last it is done or broke off
+abbrev pub PassesToTaken : (old new : Told) → BlockFiles → (kind : ℕ) → Found → Type 0
+PassesToTaken old new files kind found =
+    ForSome old.files (λ from. CanBeMarked from found.place → PassesTo old new (MarksUsedInProgress found.place.file from) (TakesOrStops files kind found from))

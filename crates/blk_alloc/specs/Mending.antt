@@ -1,8 +1,8 @@
 -- Writes that are made only where they change something.
-use Rattle.std.specs.Prelude.{◌≡◌, ◌≢◌, ℕ, ◌+◌, ◌*◌, ◌<◌, ◌≤◌, List, [], ◌∷◌, length}
+use Rattle.std.specs.Prelude.{◌≡◌, ◌≢◌, ◌⊎◌, ℕ, ◌+◌, ◌*◌, ◌<◌, ◌≤◌, List, [], ◌∷◌, length}
 use Rattle.std.specs.Option.{ForSome}
 use Rattle.spec_image.specs.Bytes.{content, range_at}
-use Rattle.spec_image.specs.Image.{File, Image, byte, length_of}
+use Rattle.spec_image.specs.Image.{Block, File, Image, byte, length_of}
 use Rattle.spec_image.specs.Steps.{TrailStep, Word, SetLength, Delete, Note, applied}
 use Rattle.spec_image.specs.Footprint.{SameOutside, range}
 use Rattle.spec_image.specs.Told.{Told, Along, Applies, IsQuiet}
@@ -39,6 +39,10 @@ KeepsLength file from image = length_of image file ≡ length_of from file
 pub record AreBytesWritten (file : File) (place : ℕ) (bytes : List ℕ) (count : ℕ) (from image : Image) : Type 0 where
   pub same : SameOutside (range file place count) from image
   pub there : (i : ℕ) → i < count → byte image file (place + i) ≡ content bytes i
+
+-- nothing has changed, or a word was written to file n at offset `place` and nothing else has changed
+abbrev pub IsOldOrWord : (n place : ℕ) (bytes : List ℕ) → Image → Image → Type 0
+IsOldOrWord n place bytes from image = (image ≡ from) ⊎ AreBytesWritten (Block n) place bytes 4 from image
 
 -- the first so many whole words of the bytes were written to the file from offset `place` on, and nothing else has changed
 pub record IsPrefixWritten (file : File) (place : ℕ) (bytes : List ℕ) (from image : Image) : Type 0 where

@@ -79,7 +79,7 @@ abbrev pub IsHeaderRead : ℕ → ℕ → ℕ → Type 0
 IsHeaderRead start place count = ((place ≡ 0) × (count ≡ block_fields_length)) ⊎ ((place ≡ map_place + 4 * (start / 32)) × (count ≡ 4))
 
 -- a read of a change of blocks in the header of file n gave too few bytes
-pub record IsShortHeader (told : Told) (n start : ℕ) (damage : Damage) : Type 0 where
+pub record IsShortHeaderRead (told : Told) (n start : ℕ) (damage : Damage) : Type 0 where
   pub place : ℕ
   pub count : ℕ
   pub read : IsHeaderRead start place count
@@ -87,4 +87,4 @@ pub record IsShortHeader (told : Told) (n start : ℕ) (damage : Damage) : Type 
 
 -- why the header of file n is corrupt where blocks come into use or are freed: a read gave too few bytes, or a counter would leave its range
 abbrev pub IsCause : Told → ℕ → ℕ → ℕ → Bool → Damage → Type 0
-IsCause told n start count used damage = IsShortHeader told n start damage ⊎ IsCounterDamage told n start count used damage
+IsCause told n start count used damage = IsShortHeaderRead told n start damage ⊎ IsCounterDamage told n start count used damage

@@ -1,22 +1,19 @@
 // Blocks are allocated.
-ghost use Rattle.std.specs.Prelude.{◌≡◌, ◌≢◌, ◌⊎◌, ◌≤◌, ◌<◌, ◌+◌, ◌-◌, ◌/◌, ◌%◌, [], true, false, None, IfOk, OnOk, IsTrue, length};
+ghost use Rattle.std.specs.Prelude.{◌≡◌, ◌≢◌, ◌≤◌, ◌<◌, ◌+◌, ◌-◌, ◌/◌, ◌%◌, None, IfOk, OnOk, IsTrue, length};
 ghost use Rattle.std.specs.List.{All};
 ghost use Rattle.std.specs.Option.{ForSome};
-ghost use Rattle.spec_image.specs.Image.{Block as block, byte};
-ghost use Rattle.spec_image.specs.Told.{Passes, PassesTo, Stays, MayWrite, ReadsOnly};
+ghost use Rattle.spec_image.specs.Told.{Stays, MayWrite, ReadsOnly, Leaves, Stops};
 ghost use Rattle.spec_format.specs.Address.{block_count, external, file_selector, is_address, kind_of, rankings};
-ghost use Rattle.spec_format.specs.BlockFiles.{is_among, most_files};
-ghost use Rattle.spec_format.specs.Headers.{allocations_of, empty_of};
-ghost use Rattle.spec_format.specs.Maps.{group_size, AreAllocations, EmptyAgrees};
+ghost use Rattle.spec_format.specs.BlockFiles.{most_files};
+ghost use Rattle.spec_format.specs.Maps.{group_size};
 ghost use Rattle.blk_addr.specs.Kind.{kind_number};
-ghost use Rattle.blk_io.specs.Faults.{IfDamaged, IfDevice};
-ghost use Rattle.blk_disk.specs.Tables.{Agrees, all_files, blocks_of, files_of, stands_among};
+ghost use Rattle.blk_io.specs.Faults.{IfDamaged, IfDevice, OkFor, UndamagedWhere};
+ghost use Rattle.blk_disk.specs.Tables.{Agrees, files_of, stands_among};
 ghost use Rattle.blk_disk.specs.Growth.{grown};
 ghost use Rattle.blk_alloc.specs.Fitting.{IsPlace};
-ghost use Rattle.blk_alloc.specs.Extending.{HasItsBlocks, HasMostBlocks, HasNoHints, KeepsAll, KeepsHintsOf, KeepsLinks, KeepsMarks, KeepsStanding};
-ghost use Rattle.blk_alloc.specs.Marking.{taking_of};
-ghost use Rattle.blk_alloc.specs.Allocating.{AllocatesIn, AreCounted, ExtendsAnd, HaveNoRoom, IsAddedPlace, IsChosen, IsCountedOnce, IsGrownRoom, IsKindFull, LiesAtHint, SetsHint, most_words, Allocates, AllocatesInProgress, AllocatesOrStops, Extends, ExtendsAndAllocates, ExtendsInProgress, IsRefusal, MakesRoomInProgress, updating_word};
-ghost use Rattle.spec_format.specs.Growth.{StaysWhole};
+ghost use Rattle.blk_alloc.specs.Extending.{HasItsBlocks, HasMostBlocks, KeepsAll, KeepsHintsOf, KeepsLinks, KeepsMarks, KeepsStanding};
+ghost use Rattle.blk_alloc.specs.Allocating.{AreCounted, HaveNoRoom, IsChosen, IsCountedOnce, IsKindFull, LiesAtHint, SetsHint, Allocates, Extends, IsRefusal, MakesRoomInProgress, AllocatesInNew, AllocatesWithin, CountsItsRoom, ExtendsOnly, IsExtendedIfThere, IsFreshIfAdded, IsFullKind, IsNewRoom, KeepsItsCount, OkLeavesCounted, PassesToAllocated, PassesToAllocatedNew, most_map_words};
+ghost use Rattle.blk_alloc.specs.Clauses.{OkLeaves, OkLeavesWhere};
 
 use crate::blocks::Blocks;
 use crate::extending::{add_room, grow_room, growing_file};
@@ -71,24 +68,24 @@ fn new_room<F: Folder>(
     requires agrees { ForSome (F.told folder.old).files (Agrees files.old) }
     requires full { ForSome (F.told folder.old).files (HaveNoRoom files.old (kind_number kind) count) }
     ensures fits { IfOk result (IsPlace files.new (kind_number kind) count) }
-    ensures place { IfOk result (λ place. ForSome (F.told folder.old).files (λ _. IsGrownRoom files.old (kind_number kind) place ⊎ IsAddedPlace files.old (kind_number kind) place)) }
-    ensures made { IfOk result (λ place. ForSome (F.told folder.old).files (λ from. AreCounted files.old (kind_number kind) from → ForSome (F.told folder.new).files (Extends files.old from place))) }
-    ensures within { IfOk result (λ place. ForSome (F.told folder.old).files (λ from. ForSome (F.told folder.new).files (ExtendsAnd updating_word files.old (kind_number kind) from place.file))) }
-    ensures counts { IfOk result (λ place. ForSome (F.told folder.old).files (λ from. ForSome (F.told folder.new).files (λ image. is_among (all_files files.old) place.file ≡ true → allocations_of (byte image (block place.file)) ≡ allocations_of (byte from (block place.file))))) }
-    ensures raised { IfOk result (λ place. ForSome (F.told folder.old).files (λ from. ForSome (F.told folder.new).files (λ image. empty_of (byte image (block place.file)) 3 ≡ (blocks_of files.new place.file - place.start) / 4))) }
+    ensures place { OkFor result (F.told folder.old) (λ place _. IsNewRoom files.old (kind_number kind) place) }
+    ensures made { OkLeavesWhere result (F.told folder.old) (F.told folder.new) (AreCounted files.old (kind_number kind)) (Extends files.old) }
+    ensures within { OkLeaves result (F.told folder.old) (F.told folder.new) (ExtendsOnly files.old (kind_number kind)) }
+    ensures counts { OkLeaves result (F.told folder.old) (F.told folder.new) (KeepsItsCount files.old) }
+    ensures raised { OkLeaves result (F.told folder.old) (F.told folder.new) (λ from. CountsItsRoom files.new) }
     ensures whole { IfOk result (λ place. place.start % 4 ≡ 0) }
-    ensures grown { IfOk result (λ place. is_among (all_files files.old) place.file ≡ true → blocks_of files.new place.file ≡ grown (blocks_of files.old place.file)) }
-    ensures fresh { IfOk result (λ place. ForSome (F.told folder.old).files (λ from. ForSome (F.told folder.new).files (λ image. is_among (all_files files.old) place.file ≡ false → AreAllocations image place.file [] × (EmptyAgrees image place.file × HasNoHints image place.file)))) }
-    ensures marks { OnOk result (ForSome (F.told folder.old).files (λ from. ForSome (F.told folder.new).files (KeepsMarks files.old from))) }
-    ensures hints { OnOk result (ForSome (F.told folder.old).files (λ from. ForSome (F.told folder.new).files (KeepsHintsOf files.old from))) }
+    ensures grown { IfOk result (IsExtendedIfThere files.old files.new) }
+    ensures fresh { OkLeaves result (F.told folder.old) (F.told folder.new) (λ from. IsFreshIfAdded files.old) }
+    ensures marks { OnOk result (Leaves (F.told folder.old) (F.told folder.new) (KeepsMarks files.old)) }
+    ensures hints { OnOk result (Leaves (F.told folder.old) (F.told folder.new) (KeepsHintsOf files.old)) }
     ensures all { OnOk result (KeepsAll files.old files.new) }
     ensures links { IfOk result (λ place. KeepsLinks files.old files.new place.file) }
     ensures standing { KeepsStanding files.old files.new }
     ensures agrees { OnOk result (ForSome (F.told folder.new).files (Agrees files.new)) }
-    ensures stops { ForSome (F.told folder.old).files (λ from. Passes (F.told folder.old) (F.told folder.new) (MakesRoomInProgress files.old (kind_number kind) from)) }
+    ensures stops { Stops (F.told folder.old) (F.told folder.new) (MakesRoomInProgress files.old (kind_number kind)) }
     ensures writes { MayWrite F.told F.faults folder.old folder.new (IfDevice result) }
     ensures cause { IfDamaged result (IsKindFull files.old (kind_number kind) (F.told folder.old)) }
-    ensures sixty { IfDamaged result (λ _. All (HasMostBlocks files.old) (files_of files.old (kind_number kind)) × (most_files ≤ length (files_of files.old (kind_number kind)))) }
+    ensures sixty { IfDamaged result (λ _. IsFullKind files.old (kind_number kind)) }
     ensures unwritten { IfDamaged result (λ _. Stays (F.told folder.old) (F.told folder.new)) }
 {
     if let Some(file) = growing_file(files, kind) {
@@ -117,23 +114,23 @@ fn allocate_new<F: Folder, L: Ledger>(
     requires node { kind_number kind ≡ rankings → count ≡ 1 }
     requires agrees { ForSome (F.told folder.old).files (Agrees files.old) }
     requires full { ForSome (F.told folder.old).files (HaveNoRoom files.old (kind_number kind) count) }
-    ensures chosen { IfOk result (λ addr. ForSome (F.told folder.old).files (λ from. IsChosen files.old from (kind_number kind) count addr)) }
-    ensures hints { IfOk result (λ addr. ForSome (F.told folder.old).files (λ from. ForSome (F.told folder.new).files (SetsHint files.old (kind_number kind) count from addr))) }
-    ensures most { IfOk result (λ addr. steps.new ≤ steps.old + most_words files.new (file_selector addr)) }
-    ensures once { IfOk result (λ addr. ForSome (F.told folder.old).files (λ from. LiesAtHint files.old files.new (kind_number kind) count from addr → steps.new ≡ steps.old + 1)) }
+    ensures chosen { OkFor result (F.told folder.old) (λ addr from. IsChosen files.old from (kind_number kind) count addr) }
+    ensures hints { OkLeaves result (F.told folder.old) (F.told folder.new) (SetsHint files.old (kind_number kind) count) }
+    ensures most { IfOk result (λ addr. steps.new ≤ steps.old + most_map_words files.new (file_selector addr)) }
+    ensures once { OkFor result (F.told folder.old) (λ w from. LiesAtHint files.old files.new (kind_number kind) count from w → steps.new ≡ steps.old + 1) }
     ensures kind { IfOk result (λ addr. (kind_of addr ≡ kind_number kind) × (block_count addr ≡ count)) }
     ensures address { IfOk result (λ addr. IsTrue (is_address addr)) }
     ensures stands { IfOk result (λ addr. IsTrue (stands_among files.new addr)) }
     ensures keeps { KeepsStanding files.old files.new }
     ensures links { IfOk result (λ addr. KeepsLinks files.old files.new (file_selector addr)) }
     ensures long { IfOk result (λ addr. HasItsBlocks files.new (file_selector addr)) }
-    ensures counted { IfOk result (λ addr. ForSome (F.told folder.old).files (λ from. ForSome (F.told folder.new).files (IsCountedOnce files.old from addr))) }
-    ensures allocates { IfOk result (λ addr. ForSome (F.told folder.old).files (λ from. AreCounted files.old (kind_number kind) from → ForSome (F.told folder.new).files (λ image. Allocates files.old from addr image × ExtendsAnd taking_of files.old (kind_number kind) from (file_selector addr) image))) }
+    ensures counted { OkLeaves result (F.told folder.old) (F.told folder.new) (IsCountedOnce files.old) }
+    ensures allocates { OkLeavesCounted result (F.told folder.old) (F.told folder.new) files.old (kind_number kind) AllocatesInNew }
     ensures agrees { OnOk result (ForSome (F.told folder.new).files (Agrees files.new)) }
-    ensures stops { ForSome (F.told folder.old).files (λ from. AreCounted files.old (kind_number kind) from → PassesTo (F.told folder.old) (F.told folder.new) (λ image. ExtendsInProgress files.old (kind_number kind) from image × StaysWhole from image) (λ image. (ExtendsInProgress files.old (kind_number kind) from image ⊎ ExtendsAndAllocates files.old (kind_number kind) count from image) × StaysWhole from image)) }
+    ensures stops { PassesToAllocatedNew (F.told folder.old) (F.told folder.new) files.old (kind_number kind) count }
     ensures writes { MayWrite F.told F.faults folder.old folder.new (IfDevice result) }
     ensures cause { IfDamaged result (IsRefusal files.old files.new (kind_number kind) count (F.told folder.old) (F.told folder.new)) }
-    ensures untold { ForSome (F.told folder.old).files (AreCounted files.old (kind_number kind)) → IfDamaged result (λ _. (F.told folder.old).files ≡ None) }
+    ensures untold { UndamagedWhere result (F.told folder.old) (AreCounted files.old (kind_number kind)) }
 {
     let room = new_room(folder, files, kind, count)?;
     let groups = (blocks_in(files, room.file) - room.start) / GROUP;
@@ -177,25 +174,25 @@ pub fn allocate_counted<F: Folder, L: Ledger>(
 
     // The blocks to which counters and hints lead, in the first file with space, or where no file of the kind has space, in one that grows, or in a new one
     // only where none may grow.
-    ensures chosen { IfOk result (λ addr. ForSome (F.told f.old).files (λ from. IsChosen files.old from (kind_number kind) blocks addr)) }
-    ensures hints { IfOk result (λ addr. ForSome (F.told f.old).files (λ from. ForSome (F.told f.new).files (SetsHint files.old (kind_number kind) blocks from addr))) }
-    ensures counted { IfOk result (λ addr. ForSome (F.told f.old).files (λ from. ForSome (F.told f.new).files (IsCountedOnce files.old from addr))) }
-    ensures allocates { IfOk result (λ addr. ForSome (F.told f.old).files (λ from. AreCounted files.old (kind_number kind) from → ForSome (F.told f.new).files (Allocates files.old from addr))) }
-    ensures within { IfOk result (λ addr. ForSome (F.told f.old).files (λ from. AreCounted files.old (kind_number kind) from → ForSome (F.told f.new).files (AllocatesIn files.old (kind_number kind) from (file_selector addr)))) }
+    ensures chosen { OkFor result (F.told f.old) (λ addr from. IsChosen files.old from (kind_number kind) blocks addr) }
+    ensures hints { OkLeaves result (F.told f.old) (F.told f.new) (SetsHint files.old (kind_number kind) blocks) }
+    ensures counted { OkLeaves result (F.told f.old) (F.told f.new) (IsCountedOnce files.old) }
+    ensures allocates { OkLeavesWhere result (F.told f.old) (F.told f.new) (AreCounted files.old (kind_number kind)) (Allocates files.old) }
+    ensures within { OkLeavesCounted result (F.told f.old) (F.told f.new) files.old (kind_number kind) AllocatesWithin }
     ensures agrees { OnOk result (ForSome (F.told f.new).files (Agrees files.new)) }
 
     // At each word only one file of the kind differs, in its length, map, counters and hints, and where it grows or is added in what these touch; updating is 1
     // until the last word, with which the allocation is done; files have grown at most, and a well-formed folder is well formed.
-    ensures stops { ForSome (F.told f.old).files (λ from. AreCounted files.old (kind_number kind) from → PassesTo (F.told f.old) (F.told f.new) (AllocatesInProgress files.old (kind_number kind) blocks from) (AllocatesOrStops files.old (kind_number kind) blocks from)) }
+    ensures stops { PassesToAllocated (F.told f.old) (F.told f.new) files.old (kind_number kind) blocks }
 
     // At most each word of the map of the file that gives the blocks is read, and one of them again; and exactly one where the group at the hint is taken. Of a
     // file without space none is read.
-    ensures most { IfOk result (λ addr. steps.new ≤ steps.old + most_words files.new (file_selector addr)) }
-    ensures once { IfOk result (λ addr. ForSome (F.told f.old).files (λ from. LiesAtHint files.old files.new (kind_number kind) blocks from addr → steps.new ≡ steps.old + 1)) }
+    ensures most { IfOk result (λ addr. steps.new ≤ steps.old + most_map_words files.new (file_selector addr)) }
+    ensures once { OkFor result (F.told f.old) (λ w from. LiesAtHint files.old files.new (kind_number kind) blocks from w → steps.new ≡ steps.old + 1) }
 
     // Nothing is written where a check of the counters or hints of an existing file fails, or where all files are full.
     ensures cause { IfDamaged result (IsRefusal files.old files.new (kind_number kind) blocks (F.told f.old) (F.told f.new)) }
-    ensures untold { ForSome (F.told f.old).files (AreCounted files.old (kind_number kind)) → IfDamaged result (λ _. (F.told f.old).files ≡ None) }
+    ensures untold { UndamagedWhere result (F.told f.old) (AreCounted files.old (kind_number kind)) }
     ensures writes { MayWrite F.told F.faults f.old f.new (IfDevice result) }
 {
     match find(f, files, kind, blocks, steps)? {
@@ -233,20 +230,20 @@ fn allocate_from<F: Folder, L: Ledger>(
 
     // The blocks to which counters and hints lead, in the first file with space, or where no file of the kind has space, in one that grows, or in a new one
     // only where none may grow.
-    ensures chosen { IfOk result (λ addr. ForSome (F.told folder.old).files (λ from. IsChosen files.old from (kind_number kind) blocks addr)) }
-    ensures hints { IfOk result (λ addr. ForSome (F.told folder.old).files (λ from. ForSome (F.told folder.new).files (SetsHint files.old (kind_number kind) blocks from addr))) }
-    ensures counted { IfOk result (λ addr. ForSome (F.told folder.old).files (λ from. ForSome (F.told folder.new).files (IsCountedOnce files.old from addr))) }
-    ensures allocates { IfOk result (λ addr. ForSome (F.told folder.old).files (λ from. AreCounted files.old (kind_number kind) from → ForSome (F.told folder.new).files (Allocates files.old from addr))) }
-    ensures within { IfOk result (λ addr. ForSome (F.told folder.old).files (λ from. AreCounted files.old (kind_number kind) from → ForSome (F.told folder.new).files (AllocatesIn files.old (kind_number kind) from (file_selector addr)))) }
+    ensures chosen { OkFor result (F.told folder.old) (λ addr from. IsChosen files.old from (kind_number kind) blocks addr) }
+    ensures hints { OkLeaves result (F.told folder.old) (F.told folder.new) (SetsHint files.old (kind_number kind) blocks) }
+    ensures counted { OkLeaves result (F.told folder.old) (F.told folder.new) (IsCountedOnce files.old) }
+    ensures allocates { OkLeavesWhere result (F.told folder.old) (F.told folder.new) (AreCounted files.old (kind_number kind)) (Allocates files.old) }
+    ensures within { OkLeavesCounted result (F.told folder.old) (F.told folder.new) files.old (kind_number kind) AllocatesWithin }
     ensures agrees { OnOk result (ForSome (F.told folder.new).files (Agrees files.new)) }
 
     // At each word only one file of the kind differs, in its length, map, counters and hints, and where it grows or is added in what these touch; updating is 1
     // until the last word, with which the allocation is done; files have grown at most, and a well-formed folder is well formed.
-    ensures stops { ForSome (F.told folder.old).files (λ from. AreCounted files.old (kind_number kind) from → PassesTo (F.told folder.old) (F.told folder.new) (AllocatesInProgress files.old (kind_number kind) blocks from) (AllocatesOrStops files.old (kind_number kind) blocks from)) }
+    ensures stops { PassesToAllocated (F.told folder.old) (F.told folder.new) files.old (kind_number kind) blocks }
 
     // Nothing is written where a check of the counters or hints of an existing file fails, or where all files are full.
     ensures cause { IfDamaged result (IsRefusal files.old files.new (kind_number kind) blocks (F.told folder.old) (F.told folder.new)) }
-    ensures untold { ForSome (F.told folder.old).files (AreCounted files.old (kind_number kind)) → IfDamaged result (λ _. (F.told folder.old).files ≡ None) }
+    ensures untold { UndamagedWhere result (F.told folder.old) (AreCounted files.old (kind_number kind)) }
     ensures writes { MayWrite F.told F.faults folder.old folder.new (IfDevice result) }
 {
     let mut steps = Steps::<L>::start(blank);
@@ -278,20 +275,20 @@ pub fn allocate<F: Folder>(
 
     // The blocks to which counters and hints lead, in the first file with space, or where no file of the kind has space, in one that grows, or in a new one
     // only where none may grow.
-    ensures chosen { IfOk result (λ addr. ForSome (F.told f.old).files (λ from. IsChosen files.old from (kind_number kind) blocks addr)) }
-    ensures hints { IfOk result (λ addr. ForSome (F.told f.old).files (λ from. ForSome (F.told f.new).files (SetsHint files.old (kind_number kind) blocks from addr))) }
-    ensures counted { IfOk result (λ addr. ForSome (F.told f.old).files (λ from. ForSome (F.told f.new).files (IsCountedOnce files.old from addr))) }
-    ensures allocates { IfOk result (λ addr. ForSome (F.told f.old).files (λ from. AreCounted files.old (kind_number kind) from → ForSome (F.told f.new).files (Allocates files.old from addr))) }
-    ensures within { IfOk result (λ addr. ForSome (F.told f.old).files (λ from. AreCounted files.old (kind_number kind) from → ForSome (F.told f.new).files (AllocatesIn files.old (kind_number kind) from (file_selector addr)))) }
+    ensures chosen { OkFor result (F.told f.old) (λ addr from. IsChosen files.old from (kind_number kind) blocks addr) }
+    ensures hints { OkLeaves result (F.told f.old) (F.told f.new) (SetsHint files.old (kind_number kind) blocks) }
+    ensures counted { OkLeaves result (F.told f.old) (F.told f.new) (IsCountedOnce files.old) }
+    ensures allocates { OkLeavesWhere result (F.told f.old) (F.told f.new) (AreCounted files.old (kind_number kind)) (Allocates files.old) }
+    ensures within { OkLeavesCounted result (F.told f.old) (F.told f.new) files.old (kind_number kind) AllocatesWithin }
     ensures agrees { OnOk result (ForSome (F.told f.new).files (Agrees files.new)) }
 
     // At each word only one file of the kind differs, in its length, map, counters and hints, and where it grows or is added in what these touch; updating is 1
     // until the last word, with which the allocation is done; files have grown at most, and a well-formed folder is well formed.
-    ensures stops { ForSome (F.told f.old).files (λ from. AreCounted files.old (kind_number kind) from → PassesTo (F.told f.old) (F.told f.new) (AllocatesInProgress files.old (kind_number kind) blocks from) (AllocatesOrStops files.old (kind_number kind) blocks from)) }
+    ensures stops { PassesToAllocated (F.told f.old) (F.told f.new) files.old (kind_number kind) blocks }
 
     // Nothing is written where a check of the counters or hints of an existing file fails, or where all files are full.
     ensures cause { IfDamaged result (IsRefusal files.old files.new (kind_number kind) blocks (F.told f.old) (F.told f.new)) }
-    ensures untold { ForSome (F.told f.old).files (AreCounted files.old (kind_number kind)) → IfDamaged result (λ _. (F.told f.old).files ≡ None) }
+    ensures untold { UndamagedWhere result (F.told f.old) (AreCounted files.old (kind_number kind)) }
     ensures writes { MayWrite F.told F.faults f.old f.new (IfDevice result) }
 {
     allocate_from::<F, Brand>(f, files, kind, blocks, Blank::new(1))

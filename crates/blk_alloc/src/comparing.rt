@@ -1,11 +1,9 @@
 // Whether the map and the counters of a file are those of the used blocks already.
 ghost use Rattle.std.specs.Prelude.{◌≡◌, ◌≤◌, length, IsTrue};
 ghost use Rattle.spec_image.specs.Bytes.{content};
-ghost use Rattle.spec_image.specs.Image.{Image};
-ghost use Rattle.spec_format.specs.BlockFiles.{max_entries_in};
 ghost use Rattle.spec_format.specs.Headers.{block_fields_length};
-ghost use Rattle.spec_format.specs.Maps.{groups_of};
-ghost use Rattle.blk_alloc.specs.Rebuilding.{AreBitsOf, AreHeaderBytes, HasMarksOf, HasTheseCounters};
+ghost use Rattle.blk_alloc.specs.Rebuilding.{AreBitsOf, HasMarksOf, HasTheseCounters};
+ghost use Rattle.blk_alloc.specs.Clauses.{ForHeader};
 
 use crate::claimed::count_runs;
 use crate::map::is_marked;
@@ -47,8 +45,8 @@ fn has_claimed(map: &[u8], claims: &Claims, file: u8, blocks: u32) -> bool
 pub(crate) fn is_right(claims: &Claims, file: u8, groups: u32, map: &[u8], fields: &[u8]) -> bool
     requires few { groups ≤ 16224 }
     requires fields { block_fields_length ≤ length fields.now }
-    ensures same { IsTrue result → (image : Image) → AreHeaderBytes image file map.now fields.now → groups ≡ groups_of (max_entries_in image file) → HasMarksOf claims.now image file }
-    ensures found { (image : Image) → AreHeaderBytes image file map.now fields.now → groups ≡ groups_of (max_entries_in image file) → HasMarksOf claims.now image file → IsTrue result }
+    ensures same { IsTrue result → ForHeader file groups map.now fields.now (λ image. HasMarksOf claims.now image file) }
+    ensures found { ForHeader file groups map.now fields.now (λ image. HasMarksOf claims.now image file → IsTrue result) }
 {
     if !has_claimed(map, claims, file, BlockHead::MOST_BLOCKS) {
         return false;

@@ -1,10 +1,9 @@
 // The counters of a block file's header.
 ghost use Rattle.std.specs.Prelude.{◌≡◌, ◌≤◌, ◌<◌, ◌+◌, ◌-◌, ◌*◌, ℕ, length, slice_index, IfOk};
-ghost use Rattle.std.specs.Option.{ForSome};
 ghost use Rattle.spec_image.specs.Image.{Block as block, byte};
 ghost use Rattle.spec_image.specs.Told.{ReadsOnly};
 ghost use Rattle.spec_format.specs.Maps.{group_size};
-ghost use Rattle.blk_io.specs.Faults.{IfDamaged, IfDevice, IsShort};
+ghost use Rattle.blk_io.specs.Faults.{IfDamaged, IfDevice, IsShort, OkFor};
 
 use blk_io::{Damage, Fault, FileId, Folder, read_exact};
 use blk_record::BlockHead;
@@ -23,7 +22,7 @@ impl Counters {
 
     // The counters that the header of a file has.
     pub(crate) fn read<F: Folder>(folder: &mut F, file: u8) -> Result<Counters, Fault>
-        ensures counters { IfOk result (λ counters. ForSome (F.told folder.old).files (λ image. AreCounters (byte image (block file)) counters)) }
+        ensures counters { OkFor result (F.told folder.old) (λ counters image. AreCounters (byte image (block file)) counters) }
         ensures short { IfDamaged result (IsShort (F.told folder.old) (FileId.Block file) 0 80) }
         ensures reads { ReadsOnly F.told F.faults folder.old folder.new (IfDevice result) }
     {

@@ -1,20 +1,18 @@
 // Files are extended or added, to get space for blocks.
 ghost use Rattle.std.specs.Prelude.{◌≡◌, ◌≢◌, ◌*◌, ◌/◌, ◌≤◌, ◌<◌, [], length, IfOk, OnOk, OnErr, IsTrue};
 ghost use Rattle.std.specs.Option.{ForSome};
-ghost use Rattle.spec_image.specs.Footprint.{either};
-ghost use Rattle.spec_image.specs.Image.{Block as block, byte};
-ghost use Rattle.spec_format.specs.Headers.{empty_of};
-ghost use Rattle.spec_image.specs.Told.{Passes, MayWrite};
+ghost use Rattle.spec_image.specs.Told.{MayWrite, Leaves, LeavesWhere, Stops};
 ghost use Rattle.spec_format.specs.BlockFiles.{is_among, most_blocks, most_files};
 ghost use Rattle.spec_format.specs.Address.{external};
 ghost use Rattle.spec_format.specs.Growth.{StaysWholeOutside};
 ghost use Rattle.blk_addr.specs.Kind.{kind_number};
 ghost use Rattle.spec_format.specs.Maps.{group_size, AreAllocations, EmptyAgrees};
 ghost use Rattle.blk_disk.specs.Tables.{Agrees, blocks_of, files_of};
-ghost use Rattle.blk_disk.specs.Growth.{IsLeastFileNumber, addition_of, free_number, grown, growth_of, new_groups, raised};
+ghost use Rattle.blk_disk.specs.Growth.{IsLeastFileNumber, free_number, grown, growth_of, raised};
 ghost use Rattle.blk_alloc.specs.Fitting.{IsPlace};
-ghost use Rattle.blk_alloc.specs.Extending.{HasCounters, HasNoHints, IsGrowing, KeepsAll, KeepsFiles, KeepsHintsOf, KeepsLinks, KeepsLists, KeepsMarks, KeepsStanding};
+ghost use Rattle.blk_alloc.specs.Extending.{HasCounters, HasNoHints, IsGrowing, KeepsAll, KeepsFiles, KeepsHintsOf, KeepsLinks, KeepsLists, KeepsMarks, KeepsStanding, CountsFreeGroups, RaisesFreeGroups, new_room_of};
 ghost use Rattle.blk_alloc.specs.Marking.{CanBeMarked, KeepsHints};
+ghost use Rattle.blk_alloc.specs.Clauses.{OkLeaves, OkLeavesWhere};
 
 use crate::blocks::Blocks;
 use crate::fitting::blocks_in;
@@ -41,15 +39,15 @@ pub(crate) fn grow_room<F: Folder>(
     ensures all { OnOk result (KeepsAll files.old files.new) }
     ensures links { OnOk result (KeepsLists files.old files.new) }
     ensures standing { KeepsStanding files.old files.new }
-    ensures marks { OnOk result (ForSome (F.told folder.old).files (λ from. ForSome (F.told folder.new).files (KeepsMarks files.old from))) }
-    ensures markable { IfOk result (λ place. ForSome (F.told folder.old).files (λ from. HasCounters from file → ForSome (F.told folder.new).files (λ image. CanBeMarked image place))) }
-    ensures raised { OnOk result (ForSome (F.told folder.old).files (λ from. ForSome (F.told folder.new).files (λ image. empty_of (byte image (block file)) 3 ≡ raised from file (new_groups (blocks_of files.old file))))) }
+    ensures marks { OnOk result (Leaves (F.told folder.old) (F.told folder.new) (KeepsMarks files.old)) }
+    ensures markable { OkLeavesWhere result (F.told folder.old) (F.told folder.new) (λ from. HasCounters from file) (λ _ place image. CanBeMarked image place) }
+    ensures raised { OnOk result (Leaves (F.told folder.old) (F.told folder.new) (RaisesFreeGroups files.old file)) }
     ensures blocks { OnOk result (blocks_of files.new file ≡ grown (blocks_of files.old file)) }
-    ensures hints { OnOk result (ForSome (F.told folder.old).files (λ from. ForSome (F.told folder.new).files (KeepsHints from))) }
-    ensures keeps { OnOk result (ForSome (F.told folder.old).files (λ from. HasCounters from file → ForSome (F.told folder.new).files (KeepsFiles files.old from))) }
+    ensures hints { OnOk result (Leaves (F.told folder.old) (F.told folder.new) KeepsHints) }
+    ensures keeps { OnOk result (LeavesWhere (F.told folder.old) (F.told folder.new) (λ from. HasCounters from file) (KeepsFiles files.old)) }
     ensures agrees { OnOk result (ForSome (F.told folder.new).files (Agrees files.new)) }
     ensures same { OnErr result (files.new ≡ files.old) }
-    ensures stops { ForSome (F.told folder.old).files (λ from. Passes (F.told folder.old) (F.told folder.new) (StaysWholeOutside (growth_of file) from)) }
+    ensures stops { Stops (F.told folder.old) (F.told folder.new) (StaysWholeOutside (growth_of file)) }
     ensures writes { MayWrite F.told F.faults folder.old folder.new (OnErr result) }
 {
     let groups = blocks_in(files, file) / GROUP;
@@ -74,18 +72,18 @@ pub(crate) fn add_room<F: Folder>(
     ensures all { OnOk result (KeepsAll files.old files.new) }
     ensures links { OnOk result (KeepsLinks files.old files.new (free_number files.old)) }
     ensures standing { KeepsStanding files.old files.new }
-    ensures marks { OnOk result (ForSome (F.told folder.old).files (λ from. ForSome (F.told folder.new).files (KeepsMarks files.old from))) }
-    ensures fresh { OnOk result (ForSome (F.told folder.old).files (λ from. ForSome (F.told folder.new).files (λ image. AreAllocations image (free_number files.old) []))) }
-    ensures raised { OnOk result (ForSome (F.told folder.old).files (λ from. ForSome (F.told folder.new).files (λ image. empty_of (byte image (block (free_number files.old))) 3 ≡ 256))) }
+    ensures marks { OnOk result (Leaves (F.told folder.old) (F.told folder.new) (KeepsMarks files.old)) }
+    ensures fresh { OnOk result (Leaves (F.told folder.old) (F.told folder.new) (λ from image. AreAllocations image (free_number files.old) [])) }
+    ensures raised { OnOk result (Leaves (F.told folder.old) (F.told folder.new) (λ from. CountsFreeGroups (free_number files.old) 256)) }
     ensures blocks { OnOk result (blocks_of files.new (free_number files.old) ≡ 1024) }
-    ensures kept_hints { OnOk result (ForSome (F.told folder.old).files (λ from. ForSome (F.told folder.new).files (KeepsHintsOf files.old from))) }
-    ensures empty { OnOk result (ForSome (F.told folder.old).files (λ from. ForSome (F.told folder.new).files (λ image. EmptyAgrees image (free_number files.old)))) }
-    ensures hints { OnOk result (ForSome (F.told folder.old).files (λ from. ForSome (F.told folder.new).files (λ image. HasNoHints image (free_number files.old)))) }
+    ensures kept_hints { OnOk result (Leaves (F.told folder.old) (F.told folder.new) (KeepsHintsOf files.old)) }
+    ensures empty { OnOk result (Leaves (F.told folder.old) (F.told folder.new) (λ from image. EmptyAgrees image (free_number files.old))) }
+    ensures hints { OnOk result (Leaves (F.told folder.old) (F.told folder.new) (λ from image. HasNoHints image (free_number files.old))) }
     ensures least { OnOk result (IsLeastFileNumber files.old (free_number files.old)) }
-    ensures markable { IfOk result (λ place. ForSome (F.told folder.old).files (λ from. ForSome (F.told folder.new).files (λ image. CanBeMarked image place))) }
-    ensures keeps { OnOk result (ForSome (F.told folder.old).files (λ from. ForSome (F.told folder.new).files (KeepsFiles files.old from))) }
+    ensures markable { OkLeaves result (F.told folder.old) (F.told folder.new) (λ _ place image. CanBeMarked image place) }
+    ensures keeps { OnOk result (Leaves (F.told folder.old) (F.told folder.new) (KeepsFiles files.old)) }
     ensures agrees { OnOk result (ForSome (F.told folder.new).files (Agrees files.new)) }
-    ensures stops { ForSome (F.told folder.old).files (λ from. Passes (F.told folder.old) (F.told folder.new) (StaysWholeOutside (either (addition_of files.old (kind_number kind)) (growth_of (free_number files.old))) from)) }
+    ensures stops { Stops (F.told folder.old) (F.told folder.new) (StaysWholeOutside (new_room_of files.old (kind_number kind))) }
     ensures writes { MayWrite F.told F.faults folder.old folder.new (OnErr result) }
 {
     let file = files.add_file(folder, kind)?;

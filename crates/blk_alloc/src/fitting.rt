@@ -1,17 +1,18 @@
 // The blocks to which counters and hints lead.
-ghost use Rattle.std.specs.Prelude.{◌≡◌, ◌≢◌, ◌≤◌, ◌<◌, ◌+◌, ◌*◌, ◌/◌, ◌%◌, ℕ, min, true, None, IfOk, IfSome, length, slice_index};
+ghost use Rattle.std.specs.Prelude.{◌≡◌, ◌≢◌, ◌≤◌, ◌<◌, ◌+◌, ◌*◌, ℕ, min, true, None, IfOk, IfSome, length, slice_index};
 ghost use Rattle.std.specs.Option.{ForSome};
 ghost use Rattle.spec_image.specs.Image.{Block as block, byte};
 ghost use Rattle.spec_image.specs.Told.{ReadsOnly};
 ghost use Rattle.spec_format.specs.Address.{external};
 ghost use Rattle.spec_format.specs.BlockFiles.{is_among, most_blocks};
-ghost use Rattle.spec_format.specs.Headers.{empty_of, hints_of};
-ghost use Rattle.spec_format.specs.Maps.{group_size, groups_of, EmptyAgrees};
+ghost use Rattle.spec_format.specs.Headers.{empty_of};
+ghost use Rattle.spec_format.specs.Maps.{group_size, EmptyAgrees};
 ghost use Rattle.blk_addr.specs.Kind.{kind_number};
-ghost use Rattle.blk_io.specs.Faults.{IfDamaged, IfDevice};
+ghost use Rattle.blk_io.specs.Faults.{IfDamaged, IfDevice, OkFor, UndamagedWhere};
 ghost use Rattle.blk_disk.specs.Tables.{Agrees, all_files, blocks_of, files_of};
-ghost use Rattle.blk_alloc.specs.Fitting.{HasNoRoom, IsByHint, IsFit, IsMapWord, IsPlace, IsFittingDamage, IsGroupSought};
-ghost use Rattle.blk_alloc.specs.Allocating.{AreCounted, HaveNoRoom, most_words};
+ghost use Rattle.blk_alloc.specs.Fitting.{HasNoRoom, IsFit, IsPlace, IsFittingDamage, IsGroupSought, HasMapWord, IsAtHint, IsFoundByHint, IsFoundIn, IsLeastCounted};
+ghost use Rattle.blk_alloc.specs.Allocating.{AreCounted, HaveNoRoom, most_map_words};
+ghost use Rattle.blk_alloc.specs.Clauses.{FoundFor, NotFoundFor};
 
 use crate::blocks::{Blocks, Found};
 use crate::counters::Counters;
@@ -42,7 +43,7 @@ pub(crate) fn blocks_in(files: &BlockFiles, file: u8) -> u32
 fn sought(empty: &[u32; 4], count: u32) -> Option<u32>
     requires four { length empty.now ≡ 4 }
     requires some { 0 < count }
-    ensures sought { IfSome result (λ i. (i < 4) × (count ≤ i + 1) × (0 < slice_index empty.now i) × ((j : ℕ) → j < i → count ≤ j + 1 → slice_index empty.now j ≡ 0)) }
+    ensures sought { IfSome result (IsLeastCounted empty.now count) }
     ensures none { result ≡ None → (j : ℕ) → j < 4 → count ≤ j + 1 → slice_index empty.now j ≡ 0 }
 {
     for i in count - 1..4 {
@@ -83,14 +84,14 @@ pub(crate) fn find_by_hint<F: Folder, L: Ledger>(
     requires linked { is_among (files_of files.now (kind_number kind)) blocks.file ≡ true }
     requires counts { 0 < counted }
     requires counted { ForSome (F.told folder.old).files (λ image. counted ≡ empty_of (byte image (block blocks.file)) i) }
-    ensures found { IfOk result (λ found. ForSome (F.told folder.old).files (λ image. IsByHint image blocks.file (groups_of (blocks_of files.now blocks.file)) blocks.count i found.place.start)) }
-    ensures word { IfOk result (λ found. ForSome (F.told folder.old).files (λ image. IsMapWord image blocks.file (found.place.start / 32) found.word)) }
+    ensures found { OkFor result (F.told folder.old) (IsFoundByHint files.now blocks.file blocks.count i) }
+    ensures word { OkFor result (F.told folder.old) (HasMapWord blocks.file) }
     ensures place { IfOk result (λ found. IsPlace files.now (kind_number kind) blocks.count found.place) }
     ensures file { IfOk result (λ found. (found.place.file ≡ blocks.file) × (found.i ≡ i)) }
-    ensures most { steps.new ≤ steps.old + most_words files.now blocks.file }
-    ensures once { IfOk result (λ found. ForSome (F.told folder.old).files (λ image. found.place.start / group_size ≡ hints_of (byte image (block blocks.file)) i % groups_of (blocks_of files.now blocks.file) → steps.new ≡ steps.old + 1)) }
+    ensures most { steps.new ≤ steps.old + most_map_words files.now blocks.file }
+    ensures once { OkFor result (F.told folder.old) (λ found image. IsAtHint files.now blocks.file i found.place.start image → steps.new ≡ steps.old + 1) }
     ensures cause { IfDamaged result (IsFittingDamage files.now (kind_number kind) (F.told folder.old)) }
-    ensures untold { ForSome (F.told folder.old).files (λ image. Agrees files.now image × EmptyAgrees image blocks.file) → IfDamaged result (λ _. (F.told folder.old).files ≡ None) }
+    ensures untold { UndamagedWhere result (F.told folder.old) (λ image. Agrees files.now image × EmptyAgrees image blocks.file) }
     ensures reads { ReadsOnly F.told F.faults folder.old folder.new (IfDevice result) }
 {
     let file = blocks.file;
@@ -119,15 +120,15 @@ fn find_in_file<F: Folder, L: Ledger>(
     requires some { 0 < count }
     requires few { count ≤ group_size }
     requires linked { is_among (files_of files.now (kind_number kind)) file ≡ true }
-    ensures full { IfOk result (λ found. found ≡ None → ForSome (F.told folder.old).files (λ image. HasNoRoom image count file)) }
-    ensures fit { IfOk result (λ found. IfSome found (λ x. ForSome (F.told folder.old).files (λ image. IsGroupSought image file count x.i × IsByHint image file (groups_of (blocks_of files.now file)) count x.i x.place.start))) }
-    ensures word { IfOk result (λ found. IfSome found (λ x. ForSome (F.told folder.old).files (λ image. IsMapWord image file (x.place.start / 32) x.word))) }
+    ensures full { NotFoundFor result (F.told folder.old) (λ image. HasNoRoom image count file) }
+    ensures fit { FoundFor result (F.told folder.old) (IsFoundIn files.now file count) }
+    ensures word { FoundFor result (F.told folder.old) (HasMapWord file) }
     ensures place { IfOk result (λ found. IfSome found (λ x. IsPlace files.now (kind_number kind) count x.place × (x.place.file ≡ file) × (x.i < 4))) }
     ensures none { IfOk result (λ found. found ≡ None → steps.new ≡ steps.old) }
-    ensures most { steps.new ≤ steps.old + most_words files.now file }
-    ensures once { IfOk result (λ found. IfSome found (λ x. ForSome (F.told folder.old).files (λ image. x.place.start / group_size ≡ hints_of (byte image (block file)) x.i % groups_of (blocks_of files.now file) → steps.new ≡ steps.old + 1))) }
+    ensures most { steps.new ≤ steps.old + most_map_words files.now file }
+    ensures once { FoundFor result (F.told folder.old) (λ x image. IsAtHint files.now file x.i x.place.start image → steps.new ≡ steps.old + 1) }
     ensures cause { IfDamaged result (IsFittingDamage files.now (kind_number kind) (F.told folder.old)) }
-    ensures untold { ForSome (F.told folder.old).files (λ image. Agrees files.now image × EmptyAgrees image file) → IfDamaged result (λ _. (F.told folder.old).files ≡ None) }
+    ensures untold { UndamagedWhere result (F.told folder.old) (λ image. Agrees files.now image × EmptyAgrees image file) }
     ensures reads { ReadsOnly F.told F.faults folder.old folder.new (IfDevice result) }
 {
     let counters = Counters::read(folder, file)?;
@@ -153,16 +154,16 @@ pub(crate) fn find<F: Folder, L: Ledger>(
     requires some { 0 < count }
     requires few { count ≤ group_size }
     requires agrees { ForSome (F.told folder.old).files (Agrees files.now) }
-    ensures full { IfOk result (λ found. found ≡ None → ForSome (F.told folder.old).files (HaveNoRoom files.now (kind_number kind) count)) }
-    ensures fit { IfOk result (λ found. IfSome found (λ x. ForSome (F.told folder.old).files (λ image. IsFit image (files_of files.now (kind_number kind)) count x.place))) }
-    ensures sought { IfOk result (λ found. IfSome found (λ x. ForSome (F.told folder.old).files (λ image. IsGroupSought image x.place.file count x.i))) }
-    ensures word { IfOk result (λ found. IfSome found (λ x. ForSome (F.told folder.old).files (λ image. IsMapWord image x.place.file (x.place.start / 32) x.word))) }
+    ensures full { NotFoundFor result (F.told folder.old) (HaveNoRoom files.now (kind_number kind) count) }
+    ensures fit { FoundFor result (F.told folder.old) (λ x image. IsFit image (files_of files.now (kind_number kind)) count x.place) }
+    ensures sought { FoundFor result (F.told folder.old) (λ x image. IsGroupSought image x.place.file count x.i) }
+    ensures word { FoundFor result (F.told folder.old) (λ x. HasMapWord x.place.file x) }
     ensures place { IfOk result (λ found. IfSome found (λ x. IsPlace files.now (kind_number kind) count x.place × (x.i < 4))) }
     ensures none { IfOk result (λ found. found ≡ None → steps.new ≡ steps.old) }
-    ensures most { IfOk result (λ found. IfSome found (λ x. steps.new ≤ steps.old + most_words files.now x.place.file)) }
-    ensures once { IfOk result (λ found. IfSome found (λ x. ForSome (F.told folder.old).files (λ image. x.place.start / group_size ≡ hints_of (byte image (block x.place.file)) x.i % groups_of (blocks_of files.now x.place.file) → steps.new ≡ steps.old + 1))) }
+    ensures most { IfOk result (λ found. IfSome found (λ x. steps.new ≤ steps.old + most_map_words files.now x.place.file)) }
+    ensures once { FoundFor result (F.told folder.old) (λ x image. IsAtHint files.now x.place.file x.i x.place.start image → steps.new ≡ steps.old + 1) }
     ensures cause { IfDamaged result (IsFittingDamage files.now (kind_number kind) (F.told folder.old)) }
-    ensures untold { ForSome (F.told folder.old).files (AreCounted files.now (kind_number kind)) → IfDamaged result (λ _. (F.told folder.old).files ≡ None) }
+    ensures untold { UndamagedWhere result (F.told folder.old) (AreCounted files.now (kind_number kind)) }
     ensures reads { ReadsOnly F.told F.faults folder.old folder.new (IfDevice result) }
 {
     for k in 0..files.count(kind) {

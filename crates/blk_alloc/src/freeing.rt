@@ -1,12 +1,13 @@
 // Blocks are freed.
-ghost use Rattle.std.specs.Prelude.{◌≡◌, false, None, IsTrue, OnOk};
+ghost use Rattle.std.specs.Prelude.{false, IsTrue, OnOk};
 ghost use Rattle.std.specs.Option.{ForSome};
-ghost use Rattle.spec_image.specs.Told.{PassesTo, Stays, MayWrite};
+ghost use Rattle.spec_image.specs.Told.{Stays, MayWrite, Leaves};
 ghost use Rattle.spec_format.specs.Address.{block_count, file_selector, first_block};
-ghost use Rattle.blk_io.specs.Faults.{IfDamaged, IfDevice};
+ghost use Rattle.blk_io.specs.Faults.{IfDamaged, IfDevice, UndamagedWhere};
 ghost use Rattle.blk_disk.specs.Tables.{Agrees, stands_among};
 ghost use Rattle.blk_alloc.specs.Marking.{KeepsHints};
 ghost use Rattle.blk_alloc.specs.Owning.{CanBeFreed, FreesInProgress, FreesOrStops, IsFreed, IsCause};
+ghost use Rattle.blk_alloc.specs.Clauses.{StopsOrEnds};
 
 use crate::blocks::blocks_of;
 use crate::change::read_and_change;
@@ -26,14 +27,14 @@ pub fn free<F: Folder>(f: &mut F, files: &BlockFiles, addr: Addr) -> Result<(), 
 
     // At each word only map, counters and updating of the file have changed, and updating is 1 until the last word, with which all of it is done; each block
     // that was there still is, with its bytes, and a well-formed folder is well formed.
-    ensures stops { ForSome (F.told f.old).files (λ from. PassesTo (F.told f.old) (F.told f.new) (FreesInProgress addr from) (FreesOrStops addr from)) }
+    ensures stops { StopsOrEnds (F.told f.old) (F.told f.new) (FreesInProgress addr) (FreesOrStops addr) }
 
     // Whatever it answers, no hint has changed.
-    ensures hints { ForSome (F.told f.old).files (λ from. ForSome (F.told f.new).files (KeepsHints from)) }
+    ensures hints { Leaves (F.told f.old) (F.told f.new) KeepsHints }
 
     ensures cause { IfDamaged result (IsCause (F.told f.old) (file_selector addr) (first_block addr) (block_count addr) false) }
     ensures unwritten { IfDamaged result (λ _. Stays (F.told f.old) (F.told f.new)) }
-    ensures untold { ForSome (F.told f.old).files (λ image. CanBeFreed image addr) → IfDamaged result (λ _. (F.told f.old).files ≡ None) }
+    ensures untold { UndamagedWhere result (F.told f.old) (λ image. CanBeFreed image addr) }
     ensures writes { MayWrite F.told F.faults f.old f.new (IfDevice result) }
 {
     let blocks = blocks_of(addr);

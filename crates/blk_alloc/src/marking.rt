@@ -1,7 +1,7 @@
 // Blocks of a file are marked as used.
-ghost use Rattle.std.specs.Prelude.{◌≡◌, ◌≢◌, ◌⊎◌, ◌<◌, ◌/◌, true, None, IfOk, OnOk, IsTrue};
+ghost use Rattle.std.specs.Prelude.{◌≡◌, ◌≢◌, ◌<◌, ◌/◌, true, IfOk, OnOk, IsTrue};
 ghost use Rattle.std.specs.Option.{ForSome};
-ghost use Rattle.spec_image.specs.Told.{PassesTo, MayWrite};
+ghost use Rattle.spec_image.specs.Told.{MayWrite, Leaves};
 ghost use Rattle.spec_format.specs.Address as address;
 ghost use Rattle.spec_format.specs.Address.{external, rankings};
 ghost use Rattle.blk_addr.specs.Kind.{kind_number};
@@ -10,7 +10,8 @@ ghost use Rattle.blk_disk.specs.Tables.{Agrees, stands_among};
 ghost use Rattle.blk_alloc.specs.Fitting.{IsMapWord, IsPlace};
 ghost use Rattle.blk_alloc.specs.Extending.{HasItsBlocks, KeepsBlockCounts, KeepsLists, KeepsStanding};
 ghost use Rattle.blk_alloc.specs.Owning.{IsCause};
-ghost use Rattle.blk_alloc.specs.Marking.{CountsUsed, CanBeMarked, KeepsHints, MarksUsedInProgress, MarksUsed};
+ghost use Rattle.blk_alloc.specs.Marking.{CountsUsed, CanBeMarked, KeepsHints, MarksUsed, PassesToMarked};
+ghost use Rattle.blk_alloc.specs.Clauses.{OkLeavesWhere, OpaqueIfDamagedWhere};
 
 use crate::blocks::Blocks;
 use crate::change::change;
@@ -36,9 +37,9 @@ pub(crate) fn mark<F: Folder>(
     ensures word { IfOk result (λ addr. addr ≡ address.block_word (kind_number kind) place.file place.start place.count) }
     ensures stands { IfOk result (λ addr. IsTrue (stands_among files.new addr)) }
     ensures keeps { KeepsStanding files.old files.new }
-    ensures counted { OnOk result (ForSome (F.told folder.old).files (λ from. ForSome (F.told folder.new).files (CountsUsed place.file place.start from))) }
-    ensures hints { OnOk result (ForSome (F.told folder.old).files (λ from. ForSome (F.told folder.new).files (KeepsHints from))) }
-    ensures used { IfOk result (λ addr. ForSome (F.told folder.old).files (λ from. CanBeMarked from place → ForSome (F.told folder.new).files (MarksUsed files.old from addr))) }
+    ensures counted { OnOk result (Leaves (F.told folder.old) (F.told folder.new) (CountsUsed place.file place.start)) }
+    ensures hints { OnOk result (Leaves (F.told folder.old) (F.told folder.new) KeepsHints) }
+    ensures used { OkLeavesWhere result (F.told folder.old) (F.told folder.new) (λ from. CanBeMarked from place) (MarksUsed files.old) }
     ensures agrees { ForSome (F.told folder.new).files (Agrees files.new) }
     ensures links { OnOk result (KeepsLists files.old files.new) }
     ensures blocks { OnOk result (KeepsBlockCounts files.old files.new) }
@@ -46,11 +47,11 @@ pub(crate) fn mark<F: Folder>(
 
     // At each word only the length, the map and the counters of the file have changed, it is no shorter, and updating is 1 until the map and the counters are
     // done.
-    ensures stops { ForSome (F.told folder.old).files (λ from. CanBeMarked from place → PassesTo (F.told folder.old) (F.told folder.new) (MarksUsedInProgress place.file from) (λ image. MarksUsedInProgress place.file from image ⊎ (MarksUsed files.old from (address.block_word (kind_number kind) place.file place.start place.count) image × KeepsHints from image))) }
+    ensures stops { PassesToMarked (F.told folder.old) (F.told folder.new) files.old (kind_number kind) place }
     ensures writes { MayWrite F.told F.faults folder.old folder.new (IfDevice result) }
     ensures place { IsPlace files.new (kind_number kind) place.count place }
     ensures cause { IfDamaged result (IsCause (F.told folder.new) place.file place.start place.count true) }
-    ensures untold { IfDamaged result (λ _. ForSome (F.told folder.old).files (λ image. CanBeMarked image place) → (F.told folder.old).files ≡ None) }
+    ensures untold { OpaqueIfDamagedWhere result (F.told folder.old) (λ image. CanBeMarked image place) }
 {
     files.fit(folder, place.file)?;
     let addr = Addr::of_blocks(kind, place.file, place.start, place.count);

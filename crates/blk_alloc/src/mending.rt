@@ -1,12 +1,13 @@
 // Words of a header are written where they differ.
-ghost use Rattle.std.specs.Prelude.{◌≡◌, ◌⊎◌, ◌+◌, ◌%◌, ◌<◌, ◌≤◌, ◌^◌, length, OnOk, OnErr};
+ghost use Rattle.std.specs.Prelude.{◌≡◌, ◌+◌, ◌%◌, ◌<◌, ◌≤◌, ◌^◌, length, OnOk, OnErr};
 ghost use Rattle.std.specs.Option.{ForSome};
-ghost use Rattle.spec_image.specs.Image.{Block as block, HasRange, byte, length_of};
-ghost use Rattle.spec_image.specs.Told.{Stays, MayWrite};
+ghost use Rattle.spec_image.specs.Image.{Block as block, HasRange, length_of};
+ghost use Rattle.spec_image.specs.Told.{Stays, MayWrite, Leaves};
 ghost use Rattle.spec_format.specs.Address.{header_size};
 ghost use Rattle.spec_format.specs.Headers.{block_fields_length};
-ghost use Rattle.blk_alloc.specs.Mending.{IsPrefixWritten, AreBytesWritten, KeepsLength, PassesNeeded, StandAt};
-ghost use Rattle.blk_alloc.specs.Rebuilding.{HasReadCounters, HasTheseCounters, IsCounting};
+ghost use Rattle.blk_alloc.specs.Mending.{IsPrefixWritten, KeepsLength, IsOldOrWord};
+ghost use Rattle.blk_alloc.specs.Rebuilding.{IsCounting};
+ghost use Rattle.blk_alloc.specs.Clauses.{EndsWithBytes, EndsWithCounters, EndsWithWord, OnlyNeeded, WhereBytes, WhereFields, WhereWord};
 
 use crate::layout::{ALLOCATIONS, EMPTY};
 use blk_io::{Failed, FileId, Folder};
@@ -24,10 +25,10 @@ pub(crate) fn mend_word<F: Folder>(
     requires old_word { length old.now ≡ 4 }
     requires new_word { length new.now ≡ 4 }
     requires inside { ForSome (F.told folder.old).files (λ image. HasRange image (block file) at 4) }
-    ensures done { OnOk result (ForSome (F.told folder.old).files (λ from. StandAt (block file) at old.now 4 from → ForSome (F.told folder.new).files (AreBytesWritten (block file) at new.now 4 from))) }
-    ensures stops { ForSome (F.told folder.old).files (λ from. StandAt (block file) at old.now 4 from → PassesNeeded (F.told folder.old) (F.told folder.new) (λ image. (image ≡ from) ⊎ AreBytesWritten (block file) at new.now 4 from image)) }
+    ensures done { OnOk result (WhereWord (F.told folder.old) (F.told folder.new) file at old.now (EndsWithWord file at new.now)) }
+    ensures stops { WhereWord (F.told folder.old) (F.told folder.new) file at old.now (OnlyNeeded (IsOldOrWord file at new.now)) }
     ensures same { old.now ≡ new.now → Stays (F.told folder.old) (F.told folder.new) }
-    ensures long { ForSome (F.told folder.old).files (λ from. ForSome (F.told folder.new).files (KeepsLength (block file) from)) }
+    ensures long { Leaves (F.told folder.old) (F.told folder.new) (KeepsLength (block file)) }
     ensures writes { MayWrite F.told F.faults folder.old folder.new (OnErr result) }
 {
     if *old == *new {
@@ -49,9 +50,9 @@ pub(crate) fn mend<F: Folder>(
     requires alike { length old.now ≡ length new.now }
     requires small { at + length new.now < 2 ^ 32 }
     requires inside { ForSome (F.told folder.old).files (λ image. HasRange image (block file) at (length new.now)) }
-    ensures done { OnOk result (ForSome (F.told folder.old).files (λ from. StandAt (block file) at old.now (length old.now) from → ForSome (F.told folder.new).files (AreBytesWritten (block file) at new.now (length new.now) from))) }
-    ensures stops { ForSome (F.told folder.old).files (λ from. StandAt (block file) at old.now (length old.now) from → PassesNeeded (F.told folder.old) (F.told folder.new) (IsPrefixWritten (block file) at new.now from)) }
-    ensures long { ForSome (F.told folder.old).files (λ from. ForSome (F.told folder.new).files (KeepsLength (block file) from)) }
+    ensures done { OnOk result (WhereBytes (F.told folder.old) (F.told folder.new) file at old.now (EndsWithBytes file at new.now)) }
+    ensures stops { WhereBytes (F.told folder.old) (F.told folder.new) file at old.now (OnlyNeeded (IsPrefixWritten (block file) at new.now)) }
+    ensures long { Leaves (F.told folder.old) (F.told folder.new) (KeepsLength (block file)) }
     ensures writes { MayWrite F.told F.faults folder.old folder.new (OnErr result) }
 {
     for k in 0..new.len() / 4 {
@@ -72,9 +73,9 @@ pub(crate) fn mend_counters<F: Folder>(
     requires four { length empty.now ≡ 4 }
     requires long_fields { length fields.now ≡ block_fields_length }
     requires header { ForSome (F.told folder.old).files (λ image. header_size ≤ length_of image (block file)) }
-    ensures done { OnOk result (ForSome (F.told folder.old).files (λ from. HasReadCounters file fields.now from → ForSome (F.told folder.new).files (λ image. HasTheseCounters (byte image (block file)) allocations empty.now))) }
-    ensures stops { ForSome (F.told folder.old).files (λ from. HasReadCounters file fields.now from → PassesNeeded (F.told folder.old) (F.told folder.new) (IsCounting file allocations empty.now from)) }
-    ensures long { ForSome (F.told folder.old).files (λ from. ForSome (F.told folder.new).files (KeepsLength (block file) from)) }
+    ensures done { OnOk result (WhereFields (F.told folder.old) (F.told folder.new) file fields.now (EndsWithCounters file allocations empty.now)) }
+    ensures stops { WhereFields (F.told folder.old) (F.told folder.new) file fields.now (OnlyNeeded (IsCounting file allocations empty.now)) }
+    ensures long { Leaves (F.told folder.old) (F.told folder.new) (KeepsLength (block file)) }
     ensures writes { MayWrite F.told F.faults folder.old folder.new (OnErr result) }
 {
     let number = &fields[ALLOCATIONS..ALLOCATIONS + 4];

@@ -1,11 +1,11 @@
 // The plan of a change of marks: what is read of a header, and what is to be written.
-ghost use Rattle.std.specs.Prelude.{◌≡◌, ◌≤◌, ◌<◌, ◌+◌, ◌*◌, ◌/◌, ◌%◌, ◌^◌, ℕ, None, slice_index, IfOk, OnOk, OnErr};
+ghost use Rattle.std.specs.Prelude.{◌≡◌, ◌≤◌, ◌<◌, ◌+◌, ◌*◌, ◌/◌, ◌%◌, ◌^◌, ℕ, slice_index, IfOk, OnOk, OnErr};
 ghost use Rattle.std.specs.Option.{ForSome};
 ghost use Rattle.spec_image.specs.Image.{Block as block, length_of};
 ghost use Rattle.spec_image.specs.Steps.{word_steps};
 ghost use Rattle.spec_image.specs.Told.{Applies, AppliesPrefix, Rises, ReadsOnly};
 ghost use Rattle.spec_format.specs.Maps.{group_size};
-ghost use Rattle.blk_io.specs.Faults.{IfDamaged, IfDevice};
+ghost use Rattle.blk_io.specs.Faults.{IfDamaged, IfDevice, OkFor};
 
 use crate::counters::Counters;
 use crate::finishing::finish;
@@ -27,6 +27,7 @@ impl Plan {
     ghost use Rattle.blk_alloc.specs.Changes.{IsPlan, CanChangeMarks, plan_words};
     ghost use Rattle.blk_alloc.specs.Fitting.{IsMapWord};
     ghost use Rattle.blk_alloc.specs.Owning.{IsCause};
+    ghost use Rattle.blk_alloc.specs.Clauses.{OpaqueIfDamagedWhere};
 
     // The plan by which so many blocks from one on, which lie in one group, are all marked or all freed, where
     // the word of the map that has them was read.
@@ -42,12 +43,12 @@ impl Plan {
         requires group { start % 4 + count ≤ group_size }
         requires small { start + count < 2 ^ 32 }
         requires word { ForSome (F.told folder.old).files (λ image. IsMapWord image file (start / 32) word) }
-        ensures plan { IfOk result (λ plan. ForSome (F.told folder.old).files (λ image. IsPlan image file start count used plan)) }
+        ensures plan { OkFor result (F.told folder.old) (λ plan image. IsPlan image file start count used plan) }
         ensures aligned { IfOk result (λ plan. plan.at % 4 ≡ 0) }
         ensures fits { IfOk result (λ plan. plan.counters.allocations < 2 ^ 32) }
         ensures runs_fit { IfOk result (λ plan. (i : ℕ) → i < 4 → slice_index plan.counters.empty i < 2 ^ 32) }
         ensures cause { IfDamaged result (IsCause (F.told folder.old) file start count used) }
-        ensures untold { IfDamaged result (λ _. ForSome (F.told folder.old).files (λ image. CanChangeMarks image file start count used) → (F.told folder.old).files ≡ None) }
+        ensures untold { OpaqueIfDamagedWhere result (F.told folder.old) (λ image. CanChangeMarks image file start count used) }
         ensures reads { ReadsOnly F.told F.faults folder.old folder.new (IfDevice result) }
     {
         let counters = Counters::read(folder, file)?;

@@ -1,20 +1,19 @@
 // Maps and counters are rebuilt from the used blocks.
-ghost use Rattle.std.specs.Prelude.{◌≡◌, ℕ, ◌+◌, ◌/◌, ◌<◌, ◌≤◌, [], ◌∷◌, true, None, max, length, OnOk, OnErr, IsTrue};
+ghost use Rattle.std.specs.Prelude.{◌≡◌, ℕ, ◌+◌, ◌/◌, ◌<◌, ◌≤◌, [], ◌∷◌, true, max, length, OnOk, OnErr, IsTrue};
 ghost use Rattle.std.specs.Option.{ForSome};
-ghost use Rattle.spec_image.specs.Bytes.{word_bytes};
 ghost use Rattle.spec_image.specs.Image.{Block as block, length_of};
-ghost use Rattle.spec_image.specs.Told.{Stays, MayWrite};
+ghost use Rattle.spec_image.specs.Told.{Stays, MayWrite, Leaves};
 ghost use Rattle.spec_format.specs.Address.{header_size};
-ghost use Rattle.spec_format.specs.BlockFiles.{is_among, max_entries_in};
-ghost use Rattle.spec_format.specs.Headers.{block_fields_length, updating_place};
-ghost use Rattle.spec_format.specs.Maps.{groups_of};
-ghost use Rattle.blk_io.specs.Faults.{IfDamaged, IfDevice};
+ghost use Rattle.spec_format.specs.BlockFiles.{is_among};
+ghost use Rattle.spec_format.specs.Headers.{block_fields_length};
+ghost use Rattle.blk_io.specs.Faults.{IfDamaged, IfDevice, OpaqueIfDamaged};
 ghost use Rattle.blk_disk.specs.Growth.{whole_length};
 ghost use Rattle.blk_disk.specs.Tables.{Agrees, Resizes, all_files, files_of, length_in};
 ghost use Rattle.blk_alloc.specs.Changes.{map_length};
-ghost use Rattle.blk_alloc.specs.Extending.{HasItsBlocks, KeepsStanding};
-ghost use Rattle.blk_alloc.specs.Mending.{KeepsLength, PassesNeeded, StandAt};
-ghost use Rattle.blk_alloc.specs.Rebuilding.{AreCountsRead, AreFitted, AreHeaderBytes, AreItsAllocations, AreRight, HasMarksOf, IsMending, IsMendingToEnd, IsRebuilding, IsRebuilt, IsShortRead, IsShortReadOf, RemakesInProgress};
+ghost use Rattle.blk_alloc.specs.Extending.{KeepsStanding};
+ghost use Rattle.blk_alloc.specs.Mending.{KeepsLength};
+ghost use Rattle.blk_alloc.specs.Rebuilding.{AreFitted, AreItsAllocations, AreRight, IsMending, IsMendingToEnd, IsRebuilding, IsRebuilt, IsShortRead, IsShortReadOf, RemakesInProgress};
+ghost use Rattle.blk_alloc.specs.Clauses.{EndsMarked, EndsRebuilt, OnlyNeeded, StaysIfRebuilt, StopsNeeded, WhereCounts, WhereGroups, WhereHeader, WhereItsBlocks, WhereUpdating};
 
 use crate::claimed::{count_runs, mark_claimed};
 use crate::comparing::is_right;
@@ -40,9 +39,9 @@ fn mend_counts<F: Folder>(
     requires long_map { length map.now ≡ map_length }
     requires long_fields { length fields.now ≡ block_fields_length }
     requires header { ForSome (F.told folder.old).files (λ image. header_size ≤ length_of image (block file)) }
-    ensures done { OnOk result (ForSome (F.told folder.old).files (λ from. AreCountsRead file groups map.now fields.now from → ForSome (F.told folder.new).files (λ image. HasMarksOf claims.now image file))) }
-    ensures stops { ForSome (F.told folder.old).files (λ from. AreCountsRead file groups map.now fields.now from → PassesNeeded (F.told folder.old) (F.told folder.new) (IsMending claims.now file from)) }
-    ensures long { ForSome (F.told folder.old).files (λ from. ForSome (F.told folder.new).files (KeepsLength (block file) from)) }
+    ensures done { OnOk result (WhereCounts (F.told folder.old) (F.told folder.new) file groups map.now fields.now (EndsMarked claims.now file)) }
+    ensures stops { WhereCounts (F.told folder.old) (F.told folder.new) file groups map.now fields.now (OnlyNeeded (IsMending claims.now file)) }
+    ensures long { Leaves (F.told folder.old) (F.told folder.new) (KeepsLength (block file)) }
     ensures writes { MayWrite F.told F.faults folder.old folder.new (OnErr result) }
 {
     let mut bytes = [0u8; MAP_LEN];
@@ -66,8 +65,8 @@ fn mend_marks<F: Folder>(
     requires long_map { length map.now ≡ map_length }
     requires long_fields { length fields.now ≡ block_fields_length }
     requires header { ForSome (F.told folder.old).files (λ image. header_size ≤ length_of image (block file)) }
-    ensures done { OnOk result (ForSome (F.told folder.old).files (λ from. AreCountsRead file groups map.now fields.now from → StandAt (block file) updating_place (word_bytes 1) 4 from → ForSome (F.told folder.new).files (λ image. IsRebuilt claims.now image file))) }
-    ensures stops { ForSome (F.told folder.old).files (λ from. AreCountsRead file groups map.now fields.now from → StandAt (block file) updating_place (word_bytes 1) 4 from → PassesNeeded (F.told folder.old) (F.told folder.new) (IsMendingToEnd claims.now file from)) }
+    ensures done { OnOk result (WhereUpdating (F.told folder.old) (F.told folder.new) file groups map.now fields.now (EndsRebuilt claims.now file)) }
+    ensures stops { WhereUpdating (F.told folder.old) (F.told folder.new) file groups map.now fields.now (OnlyNeeded (IsMendingToEnd claims.now file)) }
     ensures writes { MayWrite F.told F.faults folder.old folder.new (OnErr result) }
 {
     mend_counts(folder, claims, file, groups, map, fields)?;
@@ -94,9 +93,9 @@ fn mend_file<F: Folder>(
     requires long_map { length map.now ≡ map_length }
     requires long_fields { length fields.now ≡ block_fields_length }
     requires header { ForSome (F.told folder.old).files (λ image. header_size ≤ length_of image (block file)) }
-    ensures done { OnOk result (ForSome (F.told folder.old).files (λ from. groups ≡ groups_of (max_entries_in from file) → AreHeaderBytes from file map.now fields.now → ForSome (F.told folder.new).files (λ image. IsRebuilt claims.now image file))) }
-    ensures stops { ForSome (F.told folder.old).files (λ from. groups ≡ groups_of (max_entries_in from file) → AreHeaderBytes from file map.now fields.now → PassesNeeded (F.told folder.old) (F.told folder.new) (RemakesInProgress claims.now file from)) }
-    ensures clean { ForSome (F.told folder.old).files (λ from. groups ≡ groups_of (max_entries_in from file) → AreHeaderBytes from file map.now fields.now → IsRebuilt claims.now from file → Stays (F.told folder.old) (F.told folder.new)) }
+    ensures done { OnOk result (WhereHeader (F.told folder.old) (F.told folder.new) file groups map.now fields.now (EndsRebuilt claims.now file)) }
+    ensures stops { WhereHeader (F.told folder.old) (F.told folder.new) file groups map.now fields.now (OnlyNeeded (RemakesInProgress claims.now file)) }
+    ensures clean { WhereHeader (F.told folder.old) (F.told folder.new) file groups map.now fields.now (StaysIfRebuilt claims.now file) }
     ensures writes { MayWrite F.told F.faults folder.old folder.new (OnErr result) }
 {
     let updating = &fields[UPDATING..UPDATING + 4];
@@ -123,11 +122,11 @@ fn mend_file<F: Folder>(
 fn remake<F: Folder>(folder: &mut F, claims: &Claims, file: u8, groups: u32) -> Result<(), Fault>
     requires few { groups ≤ 16224 }
     requires header { ForSome (F.told folder.old).files (λ image. header_size ≤ length_of image (block file)) }
-    ensures done { OnOk result (ForSome (F.told folder.old).files (λ from. groups ≡ groups_of (max_entries_in from file) → ForSome (F.told folder.new).files (λ image. IsRebuilt claims.now image file))) }
-    ensures stops { ForSome (F.told folder.old).files (λ from. groups ≡ groups_of (max_entries_in from file) → PassesNeeded (F.told folder.old) (F.told folder.new) (RemakesInProgress claims.now file from)) }
-    ensures clean { ForSome (F.told folder.old).files (λ from. groups ≡ groups_of (max_entries_in from file) → IsRebuilt claims.now from file → Stays (F.told folder.old) (F.told folder.new)) }
+    ensures done { OnOk result (WhereGroups (F.told folder.old) (F.told folder.new) file groups (EndsRebuilt claims.now file)) }
+    ensures stops { WhereGroups (F.told folder.old) (F.told folder.new) file groups (OnlyNeeded (RemakesInProgress claims.now file)) }
+    ensures clean { WhereGroups (F.told folder.old) (F.told folder.new) file groups (StaysIfRebuilt claims.now file) }
     ensures cause { IfDamaged result (IsShortRead (F.told folder.new) file) }
-    ensures untold { IfDamaged result (λ _. (F.told folder.old).files ≡ None) }
+    ensures untold { OpaqueIfDamaged result (F.told folder.old) }
     ensures writes { MayWrite F.told F.faults folder.old folder.new (IfDevice result) }
 {
     let mut map = [0u8; MAP_LEN];
@@ -153,10 +152,10 @@ fn rebuild_file<F: Folder>(
     ensures agrees { ForSome (F.told folder.new).files (Agrees files.new) }
     ensures all { (kind : ℕ) → files_of files.new kind ≡ files_of files.old kind }
     ensures keeps { KeepsStanding files.old files.new }
-    ensures stops { ForSome (F.told folder.old).files (λ from. PassesNeeded (F.told folder.old) (F.told folder.new) (IsRebuilding claims.now (file ∷ []) from)) }
-    ensures clean { ForSome (F.told folder.old).files (λ from. HasItsBlocks files.old file → IsRebuilt claims.now from file → Stays (F.told folder.old) (F.told folder.new)) }
+    ensures stops { StopsNeeded (F.told folder.old) (F.told folder.new) (IsRebuilding claims.now (file ∷ [])) }
+    ensures clean { WhereItsBlocks (F.told folder.old) (F.told folder.new) files.old file (StaysIfRebuilt claims.now file) }
     ensures cause { IfDamaged result (IsShortRead (F.told folder.new) file) }
-    ensures untold { IfDamaged result (λ _. (F.told folder.old).files ≡ None) }
+    ensures untold { OpaqueIfDamaged result (F.told folder.old) }
     ensures writes { MayWrite F.told F.faults folder.old folder.new (IfDevice result) }
 {
     files.fit(folder, file)?;
@@ -177,20 +176,20 @@ pub fn rebuild<F: Folder>(f: &mut F, files: &mut BlockFiles, claims: &Claims) ->
     ensures keeps { KeepsStanding files.old files.new }
 
     ensures rebuilt { OnOk result (ForSome (F.told f.new).files (λ image. (n : ℕ) → is_among (all_files files.old) n ≡ true → IsRebuilt claims.now image n)) }
-    ensures allocations { OnOk result (ForSome (F.told f.old).files (λ from. ForSome (F.told f.new).files (AreItsAllocations claims.now (all_files files.old) from))) }
+    ensures allocations { OnOk result (Leaves (F.told f.old) (F.told f.new) (AreItsAllocations claims.now (all_files files.old))) }
     ensures fitted { OnOk result (AreFitted files.old files.new) }
     ensures agrees { ForSome (F.told f.new).files (Agrees files.new) }
 
     // Each step is needed: it writes bytes that aren't there already, or lengthens a file. At each word only lengths, maps, counters and updating differ, each
     // mark and each counter is as it was or as the used blocks have it, and in each file updating is 1 until map and counters are done; a file whose map and
     // counters were right has each byte as before; files have grown at most, and a well-formed folder is well formed.
-    ensures stops { ForSome (F.told f.old).files (λ from. PassesNeeded (F.told f.old) (F.told f.new) (IsRebuilding claims.now (all_files files.old) from)) }
+    ensures stops { StopsNeeded (F.told f.old) (F.told f.new) (IsRebuilding claims.now (all_files files.old)) }
 
     // Where each file has all its blocks, and its map and its counters are right, no step is made.
     ensures clean { ForSome (F.told f.old).files (λ from. AreRight claims.now files.old from → Stays (F.told f.old) (F.told f.new)) }
 
     ensures cause { IfDamaged result (IsShortReadOf (F.told f.new) (all_files files.old)) }
-    ensures untold { IfDamaged result (λ _. (F.told f.old).files ≡ None) }
+    ensures untold { OpaqueIfDamaged result (F.told f.old) }
     ensures writes { MayWrite F.told F.faults f.old f.new (IfDevice result) }
 {
     for number in 0..BLOCK_FILES {

@@ -1,15 +1,15 @@
 // The search of a map from a hint on.
 ghost use Rattle.std.specs.Prelude.{◌≡◌, ◌≢◌, ◌≤◌, ◌<◌, ◌+◌, ◌*◌, ◌/◌, ◌%◌, ℕ, true, None, IfOk, IfSome};
-ghost use Rattle.std.specs.Option.{ForSome};
 ghost use Rattle.spec_image.specs.Bytes.{word_bytes};
 ghost use Rattle.spec_image.specs.Told.{ReadsOnly};
 ghost use Rattle.spec_format.specs.BlockFiles.{is_among};
 ghost use Rattle.spec_format.specs.Maps as maps;
-ghost use Rattle.spec_format.specs.Maps.{group_size, groups_of, is_block_marked};
+ghost use Rattle.spec_format.specs.Maps.{group_size};
 ghost use Rattle.blk_addr.specs.Bits.{has_bit};
-ghost use Rattle.blk_io.specs.Faults.{IfDamaged, IfDevice};
+ghost use Rattle.blk_io.specs.Faults.{IfDamaged, IfDevice, UndamagedWhere};
 ghost use Rattle.blk_disk.specs.Tables.{Agrees, all_files, blocks_of};
-ghost use Rattle.blk_alloc.specs.Fitting.{IsFirstMet, IsLeastOfGroup, IsMapWord, IsShortSearch};
+ghost use Rattle.blk_alloc.specs.Fitting.{IsLeastOfGroup, IsMapWord, IsShortSearch, HasNoRun, IsGroupOf, IsHintedGroup, IsMetFirst};
+ghost use Rattle.blk_alloc.specs.Clauses.{FoundFor, NotFoundFor};
 
 use crate::layout::BITS_OF_WORD;
 use crate::map::{is_place, longest_run};
@@ -78,15 +78,15 @@ pub(crate) fn first_met<F: Folder, L: Ledger>(
     steps: &mut Steps<L>,
 ) -> Result<Option<Group>, Fault>
     requires linked { is_among (all_files files.now) file ≡ true }
-    ensures met { IfOk result (λ found. IfSome found (λ group. ForSome (F.told folder.old).files (λ image. IsFirstMet (is_block_marked image file) (groups_of (blocks_of files.now file)) hint run (8 * group.number + group.place)))) }
-    ensures word { IfOk result (λ found. IfSome found (λ group. ForSome (F.told folder.old).files (λ image. IsMapWord image file group.number group.word))) }
+    ensures met { FoundFor result (F.told folder.old) (IsMetFirst files.now file hint run) }
+    ensures word { FoundFor result (F.told folder.old) (λ group image. IsMapWord image file group.number group.word) }
     ensures run { IfOk result (λ found. IfSome found (λ group. maps.longest_run (has_bit (word_bytes group.word)) group.place ≡ run)) }
-    ensures place { IfOk result (λ found. IfSome found (λ group. (group.place < 8) × (8 * group.number + group.place < groups_of (blocks_of files.now file)))) }
-    ensures none { IfOk result (λ found. found ≡ None → ForSome (F.told folder.old).files (λ image. (g : ℕ) → g < groups_of (blocks_of files.now file) → maps.longest_run (is_block_marked image file) g ≢ run)) }
+    ensures place { IfOk result (λ found. IfSome found (IsGroupOf files.now file)) }
+    ensures none { NotFoundFor result (F.told folder.old) (HasNoRun files.now file run) }
     ensures most { steps.new ≤ steps.old + (blocks_of files.now file / 32 + 1) }
-    ensures once { IfOk result (λ found. IfSome found (λ group. ForSome (F.told folder.old).files (λ image. 8 * group.number + group.place ≡ hint % groups_of (blocks_of files.now file) → steps.new ≡ steps.old + 1))) }
+    ensures once { FoundFor result (F.told folder.old) (λ group image. IsHintedGroup files.now file hint group → steps.new ≡ steps.old + 1) }
     ensures cause { IfDamaged result (IsShortSearch files.now file (F.told folder.old)) }
-    ensures untold { ForSome (F.told folder.old).files (Agrees files.now) → IfDamaged result (λ _. (F.told folder.old).files ≡ None) }
+    ensures untold { UndamagedWhere result (F.told folder.old) (Agrees files.now) }
     ensures reads { ReadsOnly F.told F.faults folder.old folder.new (IfDevice result) }
 {
     let Some(blocks) = files.max_entries(file) else {

@@ -1,6 +1,6 @@
 -- How block files are extended, and how new ones are added.
 use Rattle.std.proofs.Common.{zero, suc}
-use Rattle.std.specs.Prelude.{ℕ, ◌+◌, ◌-◌, ◌*◌, ◌/◌, ◌%◌, ◌^◌, ◌≡◌, ◌<◌, ◌≤◌, min, List, [], ◌∷◌, ◌++◌, length, get_or, true, false, nat_lt, if◌then◌else◌, None, Some}
+use Rattle.std.specs.Prelude.{ℕ, ◌+◌, ◌-◌, ◌*◌, ◌/◌, ◌%◌, ◌^◌, ◌≡◌, ◌<◌, ◌≤◌, min, max, List, [], ◌∷◌, ◌++◌, length, get_or, true, false, nat_lt, if◌then◌else◌, None, Some}
 use Rattle.std.specs.declared.option.Option.{Option}
 use Rattle.spec_image.specs.Image.{Image, Block, byte}
 use Rattle.spec_image.specs.Steps.{TrailStep, Word, SetLength, word_steps}
@@ -9,7 +9,7 @@ use Rattle.spec_format.specs.Address.{block_size, header_size}
 use Rattle.spec_format.specs.Headers.{block_magic, blocks_place, empty_of, empty_place, entry_size_place, magic_place, next_file_place, this_file_place, block_version, version_place}
 use Rattle.spec_format.specs.BlockFiles.{kind_among, is_among, blocks_a_growth, most_blocks}
 use Rattle.blk_disk.specs.declared.tables.BlockFiles.{BlockFiles}
-use Rattle.blk_disk.specs.Tables.{files_of, all_files, blocks_of, length_in}
+use Rattle.blk_disk.specs.Tables.{Enlarges, files_of, all_files, blocks_of, length_in}
 
 -- the bytes of one block of a file that is linked as of this kind, or 0 where it isn't linked
 abbrev pub size_as : Option ℕ → ℕ
@@ -105,3 +105,7 @@ add_steps files kind = file_steps kind (free_number files) ++ link_steps (last_f
 -- what the addition of a file may touch: all of the new file, and the next_file of the last file of its kind
 abbrev pub addition_of : BlockFiles → ℕ → Footprint
 addition_of files kind = either (whole (Block (free_number files))) (range (Block (last_file files kind)) next_file_place 2)
+
+-- the table after an extension of file n: it has the number of blocks that this gives, and at least the length that they need
+abbrev pub GrowsFile : (old new : BlockFiles) → (n : ℕ) → Type 0
+GrowsFile old new n = Enlarges old new n (grown (blocks_of old n)) (max (length_in old n) (grown_length old n))

@@ -7,3 +7,4 @@ pub mod Open
 pub mod Kept
 pub mod Tables
 pub mod Unsealed
+pub mod Clauses

@@ -13,7 +13,7 @@ use Rattle.blk_io.specs.declared.folder.FileId.TheVariants as names
 use Rattle.blk_io.specs.declared.fault.Damage.{Damage}
 use Rattle.blk_io.specs.declared.fault.Fault.{Fault}
 use Rattle.blk_io.specs.declared.fault.Fault.TheVariants.{Device, Damaged}
-use Rattle.blk_io.specs.Faults.{damage_of, IsShort}
+use Rattle.blk_io.specs.Faults.{damage_of, IsShort, IsShortAtStart}
 use Rattle.blk_disk.specs.declared.tables.BlockFiles.{BlockFiles}
 use Rattle.blk_disk.specs.declared.heads.Head.{Head}
 use Rattle.blk_disk.specs.Tables.{files_of, all_files, blocks_of, length_in, Agrees}
@@ -52,12 +52,21 @@ files_left files kind = most_files - 1 - length (files_of files kind)
 abbrev pub header_checks : BlockFiles → ℕ → ℕ → (ℕ → ℕ) → ℕ → List (Option checks.Damage)
 header_checks files kind n f size = file_checks kind (all_files files ++ n ∷ []) (files_left files kind) n f size
 
+-- the first of these checks that fails for a header with these bytes, or None
+abbrev pub first_header_damage : BlockFiles → (kind n : ℕ) → (header : List ℕ) → (size : ℕ) → Option checks.Damage
+first_header_damage files kind n header size = first_of (header_checks files kind n (content header) size)
+
+-- a header, of which so many bytes were given, can't be used: these are too few, or the error is the first check that fails
+abbrev pub IsHeaderFault : BlockFiles → (kind n : ℕ) → (header : List ℕ) → (size given : ℕ) → Damage → Type 0
+IsHeaderFault files kind n header size given damage =
+    IsShortAtStart (Block n) block_fields_length given damage ⊎ (first_header_damage files kind n header size ≡ Some (damage_of damage))
+
 -- the fields of a header and the length of file n were read, and the error is the first check of them that fails
 pub record FailsFileCheck (files : BlockFiles) (kind n : ℕ) (damage : Damage) : Type 0 where
   pub header : List ℕ
   pub size : ℕ
   pub read : length header ≡ block_fields_length
-  pub first : first_of (header_checks files kind n (content header) size) ≡ Some (damage_of damage)
+  pub first : first_header_damage files kind n header size ≡ Some (damage_of damage)
 
 -- why the next file n of a kind can't be loaded, of an opaque folder too: too few bytes of its header came, or a check of what was read fails
 abbrev pub IsHeaderDamage : Told → BlockFiles → ℕ → ℕ → Damage → Type 0

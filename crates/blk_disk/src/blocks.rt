@@ -1,14 +1,14 @@
 // The bytes of blocks.
-ghost use Rattle.std.specs.Prelude.{◌≡◌, ◌⊎◌, ◌+◌, ◌≤◌, IsTrue, None, length, OnOk, OnErr};
+ghost use Rattle.std.specs.Prelude.{◌+◌, ◌≤◌, IsTrue, length, OnOk, OnErr};
 ghost use Rattle.std.specs.Option.{ForSome};
-ghost use Rattle.spec_image.specs.Bytes.{range_at};
-ghost use Rattle.spec_image.specs.Image.{Block as block, HasRange, byte};
+ghost use Rattle.spec_image.specs.Image.{Block as block};
 ghost use Rattle.spec_image.specs.Steps.{words};
-ghost use Rattle.spec_image.specs.Footprint.{SameOutside, range};
-ghost use Rattle.spec_image.specs.Told.{Applies, AppliesPrefix, Passes, Rises, ReadsOnly};
+ghost use Rattle.spec_image.specs.Footprint.{SameOutside};
+ghost use Rattle.spec_image.specs.Told.{Applies, AppliesPrefix, Rises, ReadsOnly, Stops};
 ghost use Rattle.spec_format.specs.Address.{file_selector, place, byte_size};
-ghost use Rattle.blk_io.specs.Faults.{IfDamaged, IfDevice, IsShort};
+ghost use Rattle.blk_io.specs.Faults.{IfDamaged, IfDevice, IsShort, UndamagedWhere};
 ghost use Rattle.blk_disk.specs.Tables.{Agrees, stands_among};
+ghost use Rattle.blk_disk.specs.Clauses.{AreBlockBytes, HasBlockBytes, blocks_range};
 
 use crate::names::file_of;
 use crate::standing::place_of;
@@ -30,13 +30,13 @@ impl BlockFiles {
     ) -> Result<(), Fault>
         requires stands { IsTrue (stands_among self.now addr) }
         requires inside { at + length out.old ≤ byte_size addr }
-        ensures bytes { OnOk result (ForSome (F.told f.old).files (λ image. out.new ≡ range_at (byte image (block (file_selector addr))) (place addr + at) (length out.old))) }
-        ensures checked { OnOk result (ForSome (F.told f.old).files (λ image. HasRange image (block (file_selector addr)) (place addr + at) (length out.old) ⊎ (length out.old ≡ 0))) }
+        ensures bytes { OnOk result (ForSome (F.told f.old).files (AreBlockBytes addr at out.new (length out.old))) }
+        ensures checked { OnOk result (ForSome (F.told f.old).files (HasBlockBytes addr at (length out.old))) }
         ensures reads { ReadsOnly F.told F.faults f.old f.new (IfDevice result) }
 
         // Too few bytes, which an observable folder gives only where the block files don't agree with it.
         ensures short { IfDamaged result (IsShort (F.told f.old) (FileId.Block (file_selector addr)) (place addr + at) (length out.old)) }
-        ensures untold { ForSome (F.told f.old).files (Agrees self.now) → IfDamaged result (λ _. (F.told f.old).files ≡ None) }
+        ensures untold { UndamagedWhere result (F.told f.old) (Agrees self.now) }
     {
         read_exact(f, file_of(addr), place_of(addr) + u64::from(at), out)
     }
@@ -58,7 +58,7 @@ impl BlockFiles {
         ensures prefix { AppliesPrefix (F.told f.old) (F.told f.new) (words (block (file_selector addr)) (place addr + at) bytes.now) }
 
         // At each word nothing else has changed.
-        ensures outside { ForSome (F.told f.old).files (λ from. Passes (F.told f.old) (F.told f.new) (SameOutside (range (block (file_selector addr)) (place addr + at) (length bytes.now)) from)) }
+        ensures outside { Stops (F.told f.old) (F.told f.new) (SameOutside (blocks_range addr at (length bytes.now))) }
         ensures agrees { ForSome (F.told f.new).files (Agrees self.now) }
 
         ensures later { F.faults f.old ≤ F.faults f.new }

@@ -2,13 +2,14 @@
 ghost use Rattle.std.specs.Prelude.{◌≡◌, ◌+◌, ◌*◌, ◌<◌, ◌≤◌, IsTrue, max, None, OnOk, OnErr};
 ghost use Rattle.std.specs.Option.{ForSome};
 ghost use Rattle.spec_image.specs.Image.{HasRange, Block as block};
-ghost use Rattle.spec_image.specs.Told.{Applies, AppliesPrefix, MakesPartOf, Passes, Rises, Stays};
+ghost use Rattle.spec_image.specs.Told.{Applies, AppliesPrefix, MakesPartOf, Rises, Stays, Stops};
 ghost use Rattle.spec_format.specs.Address.{header_size};
 ghost use Rattle.spec_format.specs.BlockFiles.{is_among, most_blocks, kind_among};
-ghost use Rattle.blk_disk.specs.Tables.{Agrees, Enlarges, all_files, blocks_of, files_of, length_in};
+ghost use Rattle.blk_disk.specs.Tables.{Agrees, all_files, blocks_of, files_of};
 ghost use Rattle.spec_format.specs.Growth.{StaysWholeOutside};
 ghost use Rattle.blk_disk.specs.Growth as growth;
-ghost use Rattle.blk_disk.specs.Growth.{grow_steps, growth_of, lengthen_steps, raise_steps, size_as};
+ghost use Rattle.blk_disk.specs.Growth.{grow_steps, growth_of, lengthen_steps, raise_steps, size_as, GrowsFile};
+ghost use Rattle.blk_disk.specs.Clauses.{MakesStepsOf};
 
 use crate::heads::{GROWTH, block_size};
 use crate::tables::BlockFiles;
@@ -29,15 +30,15 @@ impl BlockFiles {
         requires linked { IsTrue (is_among (all_files self.old) file) }
         requires below { blocks_of self.old file < most_blocks }
         requires agrees { ForSome (F.told f.old).files (Agrees self.old) }
-        ensures steps { OnOk result (ForSome (F.told f.old).files (λ image. Applies (F.told f.old) (F.told f.new) (grow_steps self.old file image))) }
+        ensures steps { OnOk result (MakesStepsOf (F.told f.old) (F.told f.new) (λ image. grow_steps self.old file image)) }
         ensures prefix { MakesPartOf (F.told f.old) (F.told f.new) (λ image. grow_steps self.old file image) }
-        ensures kept { OnOk result (Enlarges self.old self.new file (growth.grown (blocks_of self.old file)) (max (length_in self.old file) (growth.grown_length self.old file))) }
+        ensures kept { OnOk result (GrowsFile self.old self.new file) }
         ensures same { OnErr result (self.new ≡ self.old) }
         ensures agrees { OnOk result (ForSome (F.told f.new).files (Agrees self.new)) }
 
         // At each word nothing else has changed, the files have grown at most, and the
         // headers are kept.
-        ensures stops { ForSome (F.told f.old).files (λ from. Passes (F.told f.old) (F.told f.new) (StaysWholeOutside (growth_of file) from)) }
+        ensures stops { Stops (F.told f.old) (F.told f.new) (StaysWholeOutside (growth_of file)) }
 
         ensures later { F.faults f.old ≤ F.faults f.new }
         ensures failed { OnErr result (Rises (F.faults f.old) (F.faults f.new)) }
@@ -82,7 +83,7 @@ impl BlockFiles {
 // Bytes of the counter that the folder doesn't give count as 0.
 fn raise<F: Folder>(folder: &mut F, file: u8, groups: u32, blocks: u32) -> Result<(), Failed>
     requires { ForSome (F.told folder.old).files (λ image. HasRange image (block file) 0 40) }
-    ensures steps { OnOk result (ForSome (F.told folder.old).files (λ image. Applies (F.told folder.old) (F.told folder.new) (raise_steps image file groups blocks))) }
+    ensures steps { OnOk result (MakesStepsOf (F.told folder.old) (F.told folder.new) (λ image. raise_steps image file groups blocks)) }
     ensures prefix { ForSome (F.told folder.old).files (λ image. AppliesPrefix (F.told folder.old) (F.told folder.new) (raise_steps image file groups blocks)) }
     ensures untold { (F.told folder.old).files ≡ None → (F.told folder.new).files ≡ None }
     ensures later { F.faults folder.old ≤ F.faults folder.new }

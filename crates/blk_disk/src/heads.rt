@@ -1,18 +1,16 @@
 // The headers of block files, read and checked.
-ghost use Rattle.std.specs.Prelude.{◌≡◌, ◌≢◌, ◌⊎◌, ◌+◌, ◌-◌, ◌<◌, ◌≤◌, ◌∷◌, ◌++◌, [], length, IfOk, IsTrue, Some};
+ghost use Rattle.std.specs.Prelude.{◌≡◌, ◌≢◌, ◌+◌, ◌-◌, ◌<◌, ◌≤◌, ◌∷◌, ◌++◌, [], length, IfOk, IsTrue, Some};
 ghost use Rattle.std.specs.Option.{ForSome, option_map};
 ghost use Rattle.spec_image.specs.Bytes.{content, word_at};
 ghost use Rattle.spec_image.specs.Checks.{first_of};
-ghost use Rattle.spec_image.specs.Image.{Block as block_file};
 ghost use Rattle.spec_image.specs.Told.{ReadsOnly};
 ghost use Rattle.spec_format.specs.Address as address;
 ghost use Rattle.spec_format.specs.Address.{external};
 ghost use Rattle.spec_format.specs.BlockFiles as block_files;
-ghost use Rattle.spec_format.specs.Headers.{block_fields_length};
 ghost use Rattle.blk_addr.specs.Kind.{kind_number};
-ghost use Rattle.blk_io.specs.Faults.{IfDamaged, IfDevice, IsShortAtStart, damage_of};
+ghost use Rattle.blk_io.specs.Faults.{IfDamaged, IfDevice, damage_of};
 ghost use Rattle.blk_disk.specs.Tables.{all_files, files_of};
-ghost use Rattle.blk_disk.specs.Loading.{HasRoom, IsFresh, IsHeaderDamage, AnswersFileHeader, MayBeNext, AnswersNextHead, files_left, header_checks, next_of};
+ghost use Rattle.blk_disk.specs.Loading.{HasRoom, IsFresh, IsHeaderDamage, AnswersFileHeader, MayBeNext, AnswersNextHead, files_left, header_checks, next_of, IsHeaderFault, first_header_damage};
 
 use crate::tables::{BlockFiles, MOST_FILES};
 use blk_addr::Kind;
@@ -109,8 +107,8 @@ impl BlockFiles {
         ensures number { IfOk result (λ head. MayBeNext (kind_number kind) head.next) }
         ensures fresh { IfOk result (λ head. IsFresh (all_files self.now ++ n ∷ []) head.next) }
         ensures count { IfOk result (λ head. IsTrue (block_files.is_block_count head.blocks)) }
-        ensures judged { AnswersFileHeader (first_of (header_checks self.now (kind_number kind) n (content head.now) size)) (content head.now) size given result }
-        ensures cause { IfDamaged result (λ damage. IsShortAtStart (block_file n) block_fields_length given damage ⊎ (first_of (header_checks self.now (kind_number kind) n (content head.now) size) ≡ Some (damage_of damage))) }
+        ensures judged { AnswersFileHeader (first_header_damage self.now (kind_number kind) n head.now size) (content head.now) size given result }
+        ensures cause { IfDamaged result (IsHeaderFault self.now (kind_number kind) n head.now size given) }
         ensures device { IfDevice result ⊥ }
     {
         if BlockHead::HEADER_LEN <= size && given < BlockHead::LEN {

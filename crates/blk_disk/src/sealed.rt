@@ -1,18 +1,19 @@
 // Records with checksums at the start of blocks, and their updates.
-ghost use Rattle.std.specs.Prelude.{[], ◌≡◌, ◌+◌, ◌^◌, ◌<◌, ◌≤◌, IsTrue, None, OnErr, OnOk, length};
+ghost use Rattle.std.specs.Prelude.{[], ◌≡◌, ◌+◌, ◌^◌, ◌<◌, ◌≤◌, IsTrue, OnErr, OnOk, length};
 ghost use Rattle.std.specs.Option.{ForSome};
 ghost use Rattle.spec_image.specs.Steps.{with_words};
-ghost use Rattle.spec_image.specs.Told.{Applies, AppliesPrefix, MakesPartOf, Passes, Rises, Stays, ReadsOnly};
+ghost use Rattle.spec_image.specs.Told.{Applies, AppliesPrefix, MakesPartOf, Rises, Stays, ReadsOnly, Leaves, LeavesWhere, StopsWhere};
 ghost use Rattle.spec_format.specs.Address.{place};
 ghost use Rattle.spec_format.specs.Records as records;
 ghost use Rattle.blk_addr.specs.Kind.{kind_number};
 ghost use Rattle.blk_record.specs.Fields.{IsField};
 ghost use Rattle.blk_io.specs.declared.folder.FileId.TheVariants as FileId;
-ghost use Rattle.blk_io.specs.Faults.{IfDamaged, IfDevice};
+ghost use Rattle.blk_io.specs.Faults.{IfDamaged, IfDevice, UndamagedWhere};
 ghost use Rattle.blk_disk.specs.Tables.{Agrees, stands_among};
-ghost use Rattle.spec_format.specs.Sealed.{AreChanges, BeginsWithRecord, IsMidUpdate, IsUpdated, RecordChecks, placed, record_at, record_size, seal_by_kind, seal_place, seal_steps, sealed, sealed_steps, size_by_kind, steps_over, update_steps, update_words};
+ghost use Rattle.spec_format.specs.Sealed.{AreChanges, BeginsWithRecord, IsMidUpdate, RecordChecks, placed, record_size, seal_by_kind, seal_place, seal_steps, sealed, sealed_steps, size_by_kind, steps_over, update_steps, update_words};
 ghost use Rattle.blk_disk.specs.Damages.{IsFailedRecord};
 ghost use Rattle.blk_disk.specs.Unsealed.{missing_steps};
+ghost use Rattle.blk_disk.specs.Clauses.{IsRecordAt, MakesStepsOf, PassesUpdate, UpdatesRecord};
 
 use crate::names::file_of;
 use crate::seals::{missing_seal, seal_of, size_of, wrong_seal};
@@ -44,20 +45,20 @@ impl BlockFiles {
         requires changes { AreChanges (seal_place addr) changes.now }
         requires agrees { ForSome (F.told f.old).files (Agrees self.now) }
         ensures checked { OnOk result (ForSome (F.told f.old).files (RecordChecks addr)) }
-        ensures updated { OnOk result (ForSome (F.told f.old).files (λ from. ForSome (F.told f.new).files (IsUpdated from addr changes.now))) }
+        ensures updated { OnOk result (Leaves (F.told f.old) (F.told f.new) (UpdatesRecord addr changes.now)) }
         ensures checks { ForSome (F.told f.old).files (RecordChecks addr) → ForSome (F.told f.new).files (RecordChecks addr) }
         ensures agrees { ForSome (F.told f.new).files (Agrees self.now) }
-        ensures steps { OnOk result (ForSome (F.told f.old).files (λ from. Applies (F.told f.old) (F.told f.new) (sealed_steps from addr changes.now))) }
+        ensures steps { OnOk result (MakesStepsOf (F.told f.old) (F.told f.new) (λ from. sealed_steps from addr changes.now)) }
         ensures prefix { MakesPartOf (F.told f.old) (F.told f.new) (λ from. sealed_steps from addr changes.now) }
 
         // If the record's checksum matches or is absent, that is so at each word of the update; the record has a prefix of the changes, and nothing else has
         // changed.
-        ensures stops { ForSome (F.told f.old).files (λ from. RecordChecks addr from → Passes (F.told f.old) (F.told f.new) (IsMidUpdate from addr changes.now)) }
+        ensures stops { StopsWhere (F.told f.old) (F.told f.new) (RecordChecks addr) (λ from. IsMidUpdate from addr changes.now) }
 
         // A failed check is a short read or a wrong checksum, and nothing was written. An observable folder reports one only for a wrong checksum.
         ensures damaged { IfDamaged result (IsFailedRecord (F.told f.old) addr (record_size addr)) }
         ensures unwritten { IfDamaged result (λ _. Stays (F.told f.old) (F.told f.new)) }
-        ensures untold { ForSome (F.told f.old).files (RecordChecks addr) → IfDamaged result (λ _. (F.told f.old).files ≡ None) }
+        ensures untold { UndamagedWhere result (F.told f.old) (RecordChecks addr) }
 
         // An opaque folder stays opaque.
 
@@ -83,11 +84,11 @@ impl BlockFiles {
         requires stands { IsTrue (stands_among self.now addr) }
         requires begins { BeginsWithRecord addr }
         requires size { length bytes.old ≡ record_size addr }
-        ensures bytes { OnOk result (ForSome (F.told folder.old).files (λ image. bytes.new ≡ record_at image addr)) }
+        ensures bytes { OnOk result (ForSome (F.told folder.old).files (IsRecordAt addr bytes.new)) }
         ensures checked { OnOk result (ForSome (F.told folder.old).files (RecordChecks addr)) }
         ensures reads { ReadsOnly F.told F.faults folder.old folder.new (IfDevice result) }
         ensures damaged { IfDamaged result (IsFailedRecord (F.told folder.old) addr (record_size addr)) }
-        ensures untold { ForSome (F.told folder.old).files (Agrees self.now) → ForSome (F.told folder.old).files (RecordChecks addr) → IfDamaged result (λ _. (F.told folder.old).files ≡ None) }
+        ensures untold { ForSome (F.told folder.old).files (Agrees self.now) → UndamagedWhere result (F.told folder.old) (RecordChecks addr) }
     {
         self.read_block(folder, addr, 0, bytes)?;
         let Some(found) = wrong_seal(addr.kind(), bytes) else {
@@ -115,14 +116,14 @@ impl BlockFiles {
         requires size { length bytes.old ≡ record_size addr }
         requires agrees { ForSome (F.told folder.old).files (Agrees self.now) }
         ensures bytes { bytes.new ≡ sealed (seal_place addr) (with_words changes.now bytes.old) }
-        ensures updated { OnOk result (ForSome (F.told folder.old).files (λ from. bytes.old ≡ record_at from addr → ForSome (F.told folder.new).files (IsUpdated from addr changes.now))) }
+        ensures updated { OnOk result (LeavesWhere (F.told folder.old) (F.told folder.new) (IsRecordAt addr bytes.old) (UpdatesRecord addr changes.now)) }
         ensures agrees { ForSome (F.told folder.new).files (Agrees self.now) }
         ensures steps { OnOk result (Applies (F.told folder.old) (F.told folder.new) (steps_over bytes.old addr changes.now)) }
         ensures prefix { AppliesPrefix (F.told folder.old) (F.told folder.new) (steps_over bytes.old addr changes.now) }
 
         // If the record has these bytes and its checksum matches or is absent, that is so of the checksum at each word of the update; the record has a prefix
         // of the changes, and nothing else has changed.
-        ensures stops { ForSome (F.told folder.old).files (λ from. bytes.old ≡ record_at from addr → RecordChecks addr from → Passes (F.told folder.old) (F.told folder.new) (IsMidUpdate from addr changes.now)) }
+        ensures stops { PassesUpdate (F.told folder.old) (F.told folder.new) addr bytes.old changes.now }
         ensures later { F.faults folder.old ≤ F.faults folder.new }
         ensures failed { OnErr result (Rises (F.faults folder.old) (F.faults folder.new)) }
     {
@@ -139,16 +140,16 @@ impl BlockFiles {
         requires begins { BeginsWithRecord addr }
         requires agrees { ForSome (F.told folder.old).files (Agrees self.now) }
         ensures checked { OnOk result (ForSome (F.told folder.old).files (RecordChecks addr)) }
-        ensures updated { OnOk result (ForSome (F.told folder.old).files (λ from. ForSome (F.told folder.new).files (IsUpdated from addr []))) }
+        ensures updated { OnOk result (Leaves (F.told folder.old) (F.told folder.new) (UpdatesRecord addr [])) }
         ensures agrees { ForSome (F.told folder.new).files (Agrees self.now) }
-        ensures steps { OnOk result (ForSome (F.told folder.old).files (λ from. Applies (F.told folder.old) (F.told folder.new) (seal_steps from addr))) }
+        ensures steps { OnOk result (MakesStepsOf (F.told folder.old) (F.told folder.new) (λ from. seal_steps from addr)) }
         ensures prefix { MakesPartOf (F.told folder.old) (F.told folder.new) (λ from. seal_steps from addr) }
 
         // Before and after the word the record has its fields and a checksum that matches or is absent, and nothing else has changed.
-        ensures stops { ForSome (F.told folder.old).files (λ from. RecordChecks addr from → Passes (F.told folder.old) (F.told folder.new) (IsMidUpdate from addr [])) }
+        ensures stops { StopsWhere (F.told folder.old) (F.told folder.new) (RecordChecks addr) (λ from. IsMidUpdate from addr []) }
         ensures damaged { IfDamaged result (IsFailedRecord (F.told folder.old) addr (record_size addr)) }
         ensures unwritten { IfDamaged result (λ _. Stays (F.told folder.old) (F.told folder.new)) }
-        ensures untold { ForSome (F.told folder.old).files (RecordChecks addr) → IfDamaged result (λ _. (F.told folder.old).files ≡ None) }
+        ensures untold { UndamagedWhere result (F.told folder.old) (RecordChecks addr) }
         ensures later { F.faults folder.old ≤ F.faults folder.new }
         ensures device { IfDevice result (Rises (F.faults folder.old) (F.faults folder.new)) }
     {

@@ -1,15 +1,15 @@
 // The bytes of an external file.
-ghost use Rattle.std.specs.Prelude.{◌≡◌, ◌⊎◌, ◌≤◌, [], ◌∷◌, None, Some, length, OnOk, OnErr};
+ghost use Rattle.std.specs.Prelude.{◌≡◌, ◌⊎◌, ◌≤◌, [], ◌∷◌, None, length, OnOk, OnErr};
 ghost use Rattle.std.specs.Option.{ForSome};
-ghost use Rattle.spec_image.specs.Bytes.{range_at, spliced, resized};
-ghost use Rattle.spec_image.specs.Image.{HasRange, bytes_of, byte};
+ghost use Rattle.spec_image.specs.Bytes.{range_at};
+ghost use Rattle.spec_image.specs.Image.{HasRange, byte};
 ghost use Rattle.spec_image.specs.Steps.{SetLength, Delete, words};
-ghost use Rattle.spec_image.specs.Told.{Applies, AppliesPrefix, Stays, Passes, Rises, ReadsOnly};
+ghost use Rattle.spec_image.specs.Told.{Applies, AppliesPrefix, Stays, Rises, ReadsOnly, Leaves, Stops};
 ghost use Rattle.spec_image.specs.Footprint.{range, whole};
 ghost use Rattle.spec_format.specs.Address.{kind_of, external, external_number};
 ghost use Rattle.blk_io.specs.FileNames.{file_of};
-ghost use Rattle.blk_io.specs.Faults.{IfDamaged, IfDevice};
-ghost use Rattle.blk_external.specs.Changes.{ChangesExternal};
+ghost use Rattle.blk_io.specs.Faults.{IfDamaged, IfDevice, UndamagedWhere};
+ghost use Rattle.blk_external.specs.Changes.{ChangesExternal, IsOverwritten, IsResized};
 ghost use Rattle.blk_external.specs.Numbers.{named_file};
 ghost use Rattle.blk_external.specs.Reading.{IsFew};
 
@@ -27,7 +27,7 @@ pub fn read<F: Folder>(f: &mut F, addr: Addr, at: u64, out: &mut [u8]) -> Result
 
     // Too few bytes, which an observable folder gives only where the file is too short.
     ensures few { IfDamaged result (IsFew (F.told f.old) (external_number addr) at (length out.old)) }
-    ensures untold { ForSome (F.told f.old).files (λ image. HasRange image (named_file addr) at (length out.old)) → IfDamaged result (λ _. (F.told f.old).files ≡ None) }
+    ensures untold { UndamagedWhere result (F.told f.old) (λ image. HasRange image (named_file addr) at (length out.old)) }
 {
     let file = name_of(addr);
     let given = f.read_at(file, at, out)?;
@@ -43,12 +43,12 @@ pub fn write<F: Folder>(f: &mut F, addr: Addr, at: u64, bytes: &[u8]) -> Result<
     requires kind { kind_of addr ≡ external }
     requires inside { ForSome (F.told f.old).files (λ image. HasRange image (named_file addr) at (length bytes.now)) }
     ensures steps { OnOk result (Applies (F.told f.old) (F.told f.new) (words (named_file addr) at bytes.now)) }
-    ensures file { OnOk result (ForSome (F.told f.old).files (λ from. ForSome (F.told f.new).files (λ image. bytes_of image (named_file addr) ≡ spliced at bytes.now (bytes_of from (named_file addr))))) }
+    ensures file { OnOk result (Leaves (F.told f.old) (F.told f.new) (IsOverwritten addr at bytes.now)) }
 
     ensures prefix { AppliesPrefix (F.told f.old) (F.told f.new) (words (named_file addr) at bytes.now) }
 
     // At each word all other bytes of the file, and all other files, are as before.
-    ensures stops { ForSome (F.told f.old).files (λ from. Passes (F.told f.old) (F.told f.new) (ChangesExternal (range (named_file addr) at (length bytes.now)) (external_number addr) from)) }
+    ensures stops { Stops (F.told f.old) (F.told f.new) (ChangesExternal (range (named_file addr) at (length bytes.now)) (external_number addr)) }
 
     ensures later { F.faults f.old ≤ F.faults f.new }
     ensures failed { OnErr result (Rises (F.faults f.old) (F.faults f.new)) }
@@ -62,10 +62,10 @@ pub fn resize<F: Folder>(f: &mut F, addr: Addr, length: u64) -> Result<(), Faile
     ensures steps { OnOk result (Applies (F.told f.old) (F.told f.new) (SetLength (named_file addr) length ∷ [])) }
     ensures prefix { AppliesPrefix (F.told f.old) (F.told f.new) (SetLength (named_file addr) length ∷ []) }
     ensures undone { OnErr result (Stays (F.told f.old) (F.told f.new)) }
-    ensures file { OnOk result (ForSome (F.told f.old).files (λ from. ForSome (F.told f.new).files (λ image. image (named_file addr) ≡ Some (resized length (bytes_of from (named_file addr)))))) }
+    ensures file { OnOk result (Leaves (F.told f.old) (F.told f.new) (IsResized addr length)) }
 
     // Before and after the step all other files are as before.
-    ensures stops { ForSome (F.told f.old).files (λ from. Passes (F.told f.old) (F.told f.new) (ChangesExternal (whole (named_file addr)) (external_number addr) from)) }
+    ensures stops { Stops (F.told f.old) (F.told f.new) (ChangesExternal (whole (named_file addr)) (external_number addr)) }
 
     ensures later { F.faults f.old ≤ F.faults f.new }
     ensures failed { OnErr result (Rises (F.faults f.old) (F.faults f.new)) }
@@ -82,7 +82,7 @@ pub fn delete<F: Folder>(f: &mut F, addr: Addr) -> Result<(), Failed>
     ensures file { OnOk result (ForSome (F.told f.new).files (λ image. image (named_file addr) ≡ None)) }
 
     // Before and after the step all other files are as before.
-    ensures stops { ForSome (F.told f.old).files (λ from. Passes (F.told f.old) (F.told f.new) (ChangesExternal (whole (named_file addr)) (external_number addr) from)) }
+    ensures stops { Stops (F.told f.old) (F.told f.new) (ChangesExternal (whole (named_file addr)) (external_number addr)) }
 
     ensures later { F.faults f.old ≤ F.faults f.new }
     ensures failed { OnErr result (Rises (F.faults f.old) (F.faults f.new)) }

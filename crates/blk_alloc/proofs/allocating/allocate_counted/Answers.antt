@@ -8,7 +8,7 @@ use Rattle.spec_format.specs.Growth.{StaysWhole}
 use Rattle.spec_format.proofs.Growths.{whole_not}
 use Rattle.blk_disk.specs.Tables.{Agrees, all_files, blocks_of, files_of}
 use Rattle.blk_alloc.specs.Fitting.{HasNoRoom, IsFit, IsMapWord, IsPlace, IsFittingDamage, IsGroupSought}
-use Rattle.blk_alloc.specs.Allocating.{AllocatesIn, AreCounted, ExtendsAnd, HaveNoRoom, Allocates, AllocatesAtLast, AllocatesInProgress, AllocatesOrStops, ExtendsAndAllocates, ExtendsInProgress, IsChosen, IsFoundBy, LiesAtHint, SetsHint, most_words, IsCountedOnce, IsRefusal}
+use Rattle.blk_alloc.specs.Allocating.{AllocatesIn, AreCounted, ExtendsAnd, HaveNoRoom, Allocates, AllocatesAtLast, AllocatesInProgress, AllocatesOrStops, ExtendsAndAllocates, ExtendsInProgress, IsChosen, IsFoundBy, LiesAtHint, SetsHint, most_map_words, IsCountedOnce, IsRefusal}
 use Rattle.std.specs.Prelude.{IfOk}
 use Rattle.spec_format.specs.Address.{block_count, block_word, file_selector, first_block, is_address, kind_of}
 use Rattle.spec_format.specs.Headers.{allocations_of, hints_of}
@@ -252,12 +252,12 @@ pub returns-in-Some-clause-most : goal.returns-in-Some-clause-most
 returns-in-Some-clause-most g c =
     let place = (of_some _ c.in-Some.found _ c.in-Some.is c.in_ok-found.ensures.place).0 in
     let P = c.in-Some.found.place in
-    if_ok_on c.take.result (λ addr. addr ≡ block_word (kind_number c.args.kind) c.in-Some.found.place.file c.in-Some.found.place.start c.in-Some.found.place.count) (KeepsBlockCounts c.args.files.now c.take.new.files) (λ addr. c.find.new.steps ≤ c.args.steps.now + most_words c.take.new.files (file_selector addr))
+    if_ok_on c.take.result (λ addr. addr ≡ block_word (kind_number c.args.kind) c.in-Some.found.place.file c.in-Some.found.place.start c.in-Some.found.place.count) (KeepsBlockCounts c.args.files.now c.take.new.files) (λ addr. c.find.new.steps ≤ c.args.steps.now + most_map_words c.take.new.files (file_selector addr))
     (λ addr word blocks.
     let file = ap file_selector word ∙ word_file c.args.files.now c.args.kind c.args.blocks P c.requires.some place in
     let most = of_some _ c.in-Some.found _ c.in-Some.is c.in_ok-found.ensures.most in
     let same = blocks P.file in
-    subst (λ (m : ℕ). c.find.new.steps ≤ c.args.steps.now + most_words c.take.new.files m) (sym file) (omega (arith, most, same)))
+    subst (λ (m : ℕ). c.find.new.steps ≤ c.args.steps.now + most_map_words c.take.new.files m) (sym file) (omega (arith, most, same)))
     c.take.ensures.word c.take.ensures.blocks
 
 -- a file of a kind is one that is kept

@@ -19,7 +19,7 @@ use Rattle.blk_alloc.specs.Counting.{IsCounted}
 use Rattle.blk_alloc.specs.Fitting.{IsByHint, IsPlace}
 use Rattle.blk_alloc.specs.Extending.{HasItsBlocks, HasMostBlocks, KeepsBlockCounts, KeepsLinks, KeepsLists}
 use Rattle.blk_alloc.specs.Marking.{CanBeMarked, CountsUsed, HasHintAmong, MarksUsed, taking_of}
-use Rattle.blk_alloc.specs.Allocating.{Allocates, AreCounted, ExtendsAnd, ExtendsAndAllocates, ExtendsInProgress, IsChosen, IsCountedOnce, LiesAtHint, MakesRoomInProgress, SetsHint, most_words, updating_word}
+use Rattle.blk_alloc.specs.Allocating.{Allocates, AreCounted, ExtendsAnd, ExtendsAndAllocates, ExtendsInProgress, IsChosen, IsCountedOnce, LiesAtHint, MakesRoomInProgress, SetsHint, most_map_words, updating_word}
 use Rattle.blk_disk.specs.declared.tables.BlockFiles.{BlockFiles}
 use Rattle.blk_alloc.specs.declared.blocks.Blocks.{Blocks}
 use Rattle.blk_alloc.proofs.Links.{if_ok_on, links_then}
@@ -160,12 +160,12 @@ pub returns-clause-most : goal.returns-clause-most
 returns-clause-most g c =
     let P = c.in_ok-found.found.place in
     let is_place = fits_there c.new_room.new.files (kind_number c.args.kind) c.in_ok-room.room.count c.args.count P c.in_ok-room.ensures.fits.counted c.in_ok-found.ensures.place in
-    if_ok_on c.take.result (λ addr. addr ≡ block_word (kind_number c.args.kind) c.in_ok-found.found.place.file c.in_ok-found.found.place.start c.in_ok-found.found.place.count) (KeepsBlockCounts c.new_room.new.files c.take.new.files) (λ addr. c.find_by_hint.new.steps ≤ c.args.steps.now + most_words c.take.new.files (file_selector addr))
+    if_ok_on c.take.result (λ addr. addr ≡ block_word (kind_number c.args.kind) c.in_ok-found.found.place.file c.in_ok-found.found.place.start c.in_ok-found.found.place.count) (KeepsBlockCounts c.new_room.new.files c.take.new.files) (λ addr. c.find_by_hint.new.steps ≤ c.args.steps.now + most_map_words c.take.new.files (file_selector addr))
     (λ addr word blocks.
     let file = ap file_selector word ∙ word_file c.new_room.new.files c.args.kind c.args.count P c.requires.some is_place ∙ c.in_ok-found.ensures.file.0 in
     let most = c.in_ok-found.ensures.most in
     let same = blocks c.in_ok-room.room.file in
-    subst (λ (m : ℕ). c.find_by_hint.new.steps ≤ c.args.steps.now + most_words c.take.new.files m) (sym file) (omega (arith, most, same)))
+    subst (λ (m : ℕ). c.find_by_hint.new.steps ≤ c.args.steps.now + most_map_words c.take.new.files m) (sym file) (omega (arith, most, same)))
     c.take.ensures.word c.take.ensures.blocks
 
 pub returns-clause-chosen : goal.returns-clause-chosen
