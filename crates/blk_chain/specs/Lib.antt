@@ -4,3 +4,4 @@ pub mod Finding
 pub mod Mapping
 pub mod Examples
 pub mod LinkExamples
+pub mod ChainClauses

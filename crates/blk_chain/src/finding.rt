@@ -6,12 +6,12 @@ ghost use Rattle.spec_image.specs.Told.{ReadsOnly};
 ghost use Rattle.spec_format.specs.Address.{blocks_256, kind_of};
 ghost use Rattle.spec_format.specs.Hash.{hash as hash_of};
 ghost use Rattle.spec_format.specs.Headers.{HasWholeIndex, place_of_bucket};
-ghost use Rattle.blk_io.specs.Faults.{IfDamaged, IfDevice};
+ghost use Rattle.blk_io.specs.Faults.{IfDamaged, IfDevice, OkFor};
 ghost use Rattle.spec_folder.specs.Chains.{bucket_of_hash};
 ghost use Rattle.spec_folder.specs.View.{store_of};
-ghost use Rattle.blk_disk.specs.Tables.{Agrees, is_record_among, stands_among};
+ghost use Rattle.blk_disk.specs.Tables.{is_record_among, stands_among};
 ghost use Rattle.blk_entry.specs.Keys.{CanBeRead, IsRecordHead, IsPlaceDamage};
-ghost use Rattle.blk_chain.specs.Unlinking.{CanBeUnlinked};
+ghost use Rattle.blk_chain.specs.ChainClauses.{CanUnlinkFound, UndamagedByTable};
 ghost use Rattle.blk_chain.specs.Finding.{CanBeSearched, IsAnswer, IsDanglingLink, IsChainDamage, IsKeyed, IsFaultOfLink, IsOutcome, IsSearchDamage, IsSought, IsSearchStep, IsStepAt, StandsBefore};
 ghost use Rattle.spec_folder.specs.Searches.{bucket_of_key};
 
@@ -65,7 +65,7 @@ pub fn find<F: Folder>(
 ) -> Result<Option<Found>, Fault>
     // Of any chain, what is found by following it; of one that can be searched, the first record with the key and the flag.
     ensures outcome { IfOk result (λ answer. ForSome (F.told f.old).files (IsOutcome files.now key.now child answer)) }
-    ensures found { IfOk result (λ answer. ForSome (F.told f.old).files (λ image. CanBeSearched key.now image → IsAnswer key.now child answer image)) }
+    ensures found { OkFor result (F.told f.old) (λ answer image. CanBeSearched key.now image → IsAnswer key.now child answer image) }
     ensures checked { OnOk result (ForSome (F.told f.old).files (λ image. HasRange image index (place_of_bucket (bucket_of_key key.now)) 4)) }
 
     // What is found is valid, and so is the record before it; it can be unlinked.
@@ -75,12 +75,12 @@ pub fn find<F: Folder>(
     ensures names_before { IfOk result (λ answer. IfSome answer (λ found. StandsBefore files.now found.before)) }
     ensures kind_before { IfOk result (λ answer. IfSome answer (λ found. IfSome found.before (λ before. kind_of before ≡ blocks_256))) }
     ensures stands_before { IfOk result (λ answer. IfSome answer (λ found. IfSome found.before (λ before. IsTrue (stands_among files.now before)))) }
-    ensures linked { IfOk result (λ answer. IfSome answer (λ found. ForSome (F.told f.old).files (λ image. CanBeSearched key.now image → CanBeUnlinked found.entry found.before image))) }
+    ensures linked { IfOk result (λ answer. IfSome answer (λ found. ForSome (F.told f.old).files (CanUnlinkFound key.now found))) }
     ensures reads { ReadsOnly F.told F.faults f.old f.new (IfDevice result) }
 
     // An observable folder reports corruption only for a chain that can't be searched.
     ensures damaged { IfDamaged result (IsSearchDamage files.now (F.told f.old) key.now child) }
-    ensures untold { ForSome (F.told f.old).files HasWholeIndex → ForSome (F.told f.old).files (Agrees files.now) → ForSome (F.told f.old).files (CanBeSearched key.now) → IfDamaged result (λ _. (F.told f.old).files ≡ None) }
+    ensures untold { ForSome (F.told f.old).files HasWholeIndex → UndamagedByTable result (F.told f.old) files.now (CanBeSearched key.now) }
 {
     let hash = super_fast_hash(key);
     let word = bucket(f, (hash % IndexHead::BUCKETS) as u16)?;
@@ -100,17 +100,17 @@ fn search<F: Folder>(
     requires front { front.before ≡ None }
     requires word { ForSome (F.told folder.old).files (λ image. (store_of image).table (bucket_of_key key.now) ≡ front.word) }
     ensures outcome { IfOk result (λ answer. ForSome (F.told folder.old).files (IsOutcome files.now key.now sought.now.child answer)) }
-    ensures found { IfOk result (λ answer. ForSome (F.told folder.old).files (λ image. CanBeSearched key.now image → IsAnswer key.now sought.now.child answer image)) }
+    ensures found { OkFor result (F.told folder.old) (λ answer image. CanBeSearched key.now image → IsAnswer key.now sought.now.child answer image) }
     ensures names { IfOk result (λ answer. IfSome answer (λ found. IsTrue (is_record_among files.now found.entry))) }
     ensures kind { IfOk result (λ answer. IfSome answer (λ found. kind_of found.entry ≡ blocks_256)) }
     ensures stands { IfOk result (λ answer. IfSome answer (λ found. IsTrue (stands_among files.now found.entry))) }
     ensures names_before { IfOk result (λ answer. IfSome answer (λ found. StandsBefore files.now found.before)) }
     ensures kind_before { IfOk result (λ answer. IfSome answer (λ found. IfSome found.before (λ before. kind_of before ≡ blocks_256))) }
     ensures stands_before { IfOk result (λ answer. IfSome answer (λ found. IfSome found.before (λ before. IsTrue (stands_among files.now before)))) }
-    ensures linked { IfOk result (λ answer. IfSome answer (λ found. ForSome (F.told folder.old).files (λ image. CanBeSearched key.now image → CanBeUnlinked found.entry found.before image))) }
+    ensures linked { IfOk result (λ answer. IfSome answer (λ found. ForSome (F.told folder.old).files (CanUnlinkFound key.now found))) }
     ensures reads { ReadsOnly F.told F.faults folder.old folder.new (IfDevice result) }
     ensures damaged { IfDamaged result (IsChainDamage files.now (F.told folder.old) key.now sought.now.child) }
-    ensures untold { ForSome (F.told folder.old).files (Agrees files.now) → ForSome (F.told folder.old).files (CanBeSearched key.now) → IfDamaged result (λ _. (F.told folder.old).files ≡ None) }
+    ensures untold { UndamagedByTable result (F.told folder.old) files.now (CanBeSearched key.now) }
 {
     let mut link = front;
     let mut left = MOST_RECORDS;
@@ -148,7 +148,7 @@ fn look_at<F: Folder>(
     ensures stands { IfOk result (IsStepAt files.now link.now.word) }
     ensures reads { ReadsOnly F.told F.faults folder.old folder.new (IfDevice result) }
     ensures damaged { IfDamaged result (IsChainDamage files.now (F.told folder.old) key.now sought.now.child) }
-    ensures untold { ForSome (F.told folder.old).files (Agrees files.now) → ForSome (F.told folder.old).files (IsKeyed link.now.word) → IfDamaged result (λ _. (F.told folder.old).files ≡ None) }
+    ensures untold { UndamagedByTable result (F.told folder.old) files.now (IsKeyed link.now.word) }
 {
     let entry = record_of(files, sought.hash, link)?;
     let head = read_head(folder, files, entry)?;

@@ -2,11 +2,12 @@
 ghost use Rattle.std.specs.Prelude.{◌≡◌, ◌≤◌, IsTrue, None, OnOk};
 ghost use Rattle.std.specs.Option.{ForSome};
 ghost use Rattle.spec_image.specs.Image.{Block as block, HasRange};
-ghost use Rattle.spec_image.specs.Told.{Applies, Commits, MakesPartOf, Rises, Stays};
+ghost use Rattle.spec_image.specs.Told.{LeavesWhere, MakesPartOf, Rises, Stays};
 ghost use Rattle.spec_format.specs.Address.{blocks_256, file_selector, kind_of, place};
 ghost use Rattle.blk_io.specs.declared.folder.FileId.TheVariants as FileId;
 ghost use Rattle.blk_io.specs.Faults.{IfDamaged, IfDevice, IsShort};
 ghost use Rattle.blk_disk.specs.Tables.{stands_among};
+ghost use Rattle.blk_chain.specs.ChainClauses.{CommitsLink, MakesAllOf};
 ghost use Rattle.blk_chain.specs.Linking.{CanBeLinked, IsLinkedInFront, link_front_steps};
 ghost use Rattle.blk_chain.specs.Mapping.{GainsOne};
 ghost use Rattle.blk_disk.specs.Open.{IsOpen};
@@ -28,15 +29,15 @@ pub fn link_front<F: Folder>(f: &mut F, files: &BlockFiles, entry: Addr) -> Resu
     requires is_open { ForSome (F.told f.old).files (IsOpen files.now) }
 
     // A record that can be linked is linked, and the chains, a map from keys and child flags to records, have one record more.
-    ensures linked { OnOk result (ForSome (F.told f.old).files (λ from. CanBeLinked entry from → ForSome (F.told f.new).files (IsLinkedInFront from entry))) }
-    ensures gains { OnOk result (ForSome (F.told f.old).files (λ from. CanBeLinked entry from → ForSome (F.told f.new).files (GainsOne from entry))) }
+    ensures linked { OnOk result (LeavesWhere (F.told f.old) (F.told f.new) (CanBeLinked entry) (λ from. IsLinkedInFront from entry)) }
+    ensures gains { OnOk result (LeavesWhere (F.told f.old) (F.told f.new) (CanBeLinked entry) (λ from. GainsOne from entry)) }
     ensures checked { OnOk result (ForSome (F.told f.old).files (λ image. HasRange image (block (file_selector entry)) (place entry) 4)) }
     ensures is_open { ForSome (F.told f.new).files (IsOpen files.now) }
-    ensures steps { OnOk result (ForSome (F.told f.old).files (λ from. Applies (F.told f.old) (F.told f.new) (link_front_steps from entry))) }
+    ensures steps { OnOk result (MakesAllOf (F.told f.old) (F.told f.new) (λ from. link_front_steps from entry)) }
     ensures prefix { MakesPartOf (F.told f.old) (F.told f.new) (λ from. link_front_steps from entry) }
 
     // Until the word of the bucket is written all is as before, and from then on the record is linked and nothing else has changed.
-    ensures commits { ForSome (F.told f.old).files (λ from. CanBeLinked entry from → Commits 1 (F.told f.old) (F.told f.new) (λ image. image ≡ from) (IsLinkedInFront from entry)) }
+    ensures commits { ForSome (F.told f.old).files (λ from. CanBeLinked entry from → CommitsLink (F.told f.old) (F.told f.new) entry from) }
 
     // A failed check is too few bytes, which an observable folder never gives, and nothing was written.
     ensures short { IfDamaged result (IsShort (F.told f.old) (FileId.Block (file_selector entry)) (place entry) 4) }

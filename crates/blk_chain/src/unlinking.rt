@@ -1,13 +1,14 @@
 // Records that are taken out of a chain.
 ghost use Rattle.std.specs.Prelude.{◌≡◌, ◌≤◌, IfSome, IsTrue, None, OnOk, Some};
 ghost use Rattle.std.specs.Option.{ForSome};
-ghost use Rattle.spec_image.specs.Told.{Applies, Commits, MakesPartOf, Rises, Stays};
+ghost use Rattle.spec_image.specs.Told.{MakesPartOf, Rises, Stays};
 ghost use Rattle.spec_format.specs.Address.{blocks_256, kind_of};
 ghost use Rattle.blk_io.specs.Faults.{IfDamaged, IfDevice};
 ghost use Rattle.spec_format.specs.Sealed.{RecordChecks};
 ghost use Rattle.blk_disk.specs.Tables.{stands_among};
+ghost use Rattle.blk_chain.specs.ChainClauses.{CommitsUnlink, MakesAllOf, UnlinkEndsIn, WhereUnlinkable};
 ghost use Rattle.blk_chain.specs.Mapping.{LosesOne};
-ghost use Rattle.blk_chain.specs.Unlinking.{BeforeChecks, CanBeUnlinked, IsSealedAgain, IsStillLinked, IsUnlinkDamage, IsUnlinked, unlink_steps, words_to_unlink};
+ghost use Rattle.blk_chain.specs.Unlinking.{BeforeChecks, IsSealedAgain, IsUnlinkDamage, IsUnlinked, unlink_steps};
 ghost use Rattle.blk_disk.specs.Open.{IsOpen};
 
 use crate::found::Found;
@@ -30,13 +31,13 @@ fn unlink_behind<F: Folder>(
     requires kind_before { kind_of before ≡ blocks_256 }
     requires stands_before { IsTrue (stands_among files.now before) }
     requires is_open { ForSome (F.told folder.old).files (IsOpen files.now) }
-    ensures unlinked { OnOk result (ForSome (F.told folder.old).files (λ from. CanBeUnlinked entry (Some before) from → ForSome (F.told folder.new).files (IsUnlinked from entry (Some before)))) }
+    ensures unlinked { OnOk result (WhereUnlinkable (F.told folder.old) entry (Some before) (UnlinkEndsIn (F.told folder.new) IsUnlinked)) }
     ensures sealed { OnOk result (ForSome (F.told folder.old).files (λ from. ForSome (F.told folder.new).files (IsSealedAgain from entry (Some before)))) }
     ensures checked { OnOk result (ForSome (F.told folder.old).files (RecordChecks before)) }
     ensures is_open { ForSome (F.told folder.new).files (IsOpen files.now) }
-    ensures steps { OnOk result (ForSome (F.told folder.old).files (λ from. Applies (F.told folder.old) (F.told folder.new) (unlink_steps from entry (Some before)))) }
+    ensures steps { OnOk result (MakesAllOf (F.told folder.old) (F.told folder.new) (λ from. unlink_steps from entry (Some before))) }
     ensures prefix { MakesPartOf (F.told folder.old) (F.told folder.new) (λ from. unlink_steps from entry (Some before)) }
-    ensures commits { ForSome (F.told folder.old).files (λ from. CanBeUnlinked entry (Some before) from → Commits (words_to_unlink (Some before)) (F.told folder.old) (F.told folder.new) (IsStillLinked from entry (Some before)) (IsUnlinked from entry (Some before))) }
+    ensures commits { WhereUnlinkable (F.told folder.old) entry (Some before) (CommitsUnlink (F.told folder.old) (F.told folder.new)) }
     ensures damaged { IfDamaged result (IsUnlinkDamage (F.told folder.old) entry (Some before)) }
     ensures unwritten { IfDamaged result (λ _. Stays (F.told folder.old) (F.told folder.new)) }
     ensures untold { ForSome (F.told folder.old).files (RecordChecks before) → IfDamaged result (λ _. (F.told folder.old).files ≡ None) }
@@ -52,11 +53,11 @@ fn unlink_first<F: Folder>(folder: &mut F, files: &BlockFiles, entry: Addr) -> R
     requires kind { kind_of entry ≡ blocks_256 }
     requires stands { IsTrue (stands_among files.now entry) }
     requires is_open { ForSome (F.told folder.old).files (IsOpen files.now) }
-    ensures unlinked { OnOk result (ForSome (F.told folder.old).files (λ from. CanBeUnlinked entry None from → ForSome (F.told folder.new).files (IsUnlinked from entry None))) }
+    ensures unlinked { OnOk result (WhereUnlinkable (F.told folder.old) entry None (UnlinkEndsIn (F.told folder.new) IsUnlinked)) }
     ensures is_open { ForSome (F.told folder.new).files (IsOpen files.now) }
-    ensures steps { OnOk result (ForSome (F.told folder.old).files (λ from. Applies (F.told folder.old) (F.told folder.new) (unlink_steps from entry None))) }
+    ensures steps { OnOk result (MakesAllOf (F.told folder.old) (F.told folder.new) (λ from. unlink_steps from entry None)) }
     ensures prefix { MakesPartOf (F.told folder.old) (F.told folder.new) (λ from. unlink_steps from entry None) }
-    ensures commits { ForSome (F.told folder.old).files (λ from. CanBeUnlinked entry None from → Commits (words_to_unlink None) (F.told folder.old) (F.told folder.new) (IsStillLinked from entry None) (IsUnlinked from entry None)) }
+    ensures commits { WhereUnlinkable (F.told folder.old) entry None (CommitsUnlink (F.told folder.old) (F.told folder.new)) }
     ensures damaged { IfDamaged result (IsUnlinkDamage (F.told folder.old) entry None) }
     ensures unwritten { IfDamaged result (λ _. Stays (F.told folder.old) (F.told folder.new)) }
     ensures untold { IfDamaged result (λ _. (F.told folder.old).files ≡ None) }
@@ -82,19 +83,19 @@ pub fn unlink<F: Folder>(f: &mut F, files: &BlockFiles, found: &Found) -> Result
     requires is_open { ForSome (F.told f.old).files (IsOpen files.now) }
 
     // A record of a whole chain is unlinked, and the chains, a map from keys and child flags to records, have one record less.
-    ensures unlinked { OnOk result (ForSome (F.told f.old).files (λ from. CanBeUnlinked found.now.entry found.now.before from → ForSome (F.told f.new).files (IsUnlinked from found.now.entry found.now.before))) }
-    ensures loses { OnOk result (ForSome (F.told f.old).files (λ from. CanBeUnlinked found.now.entry found.now.before from → ForSome (F.told f.new).files (LosesOne from found.now.entry found.now.before))) }
+    ensures unlinked { OnOk result (WhereUnlinkable (F.told f.old) found.now.entry found.now.before (UnlinkEndsIn (F.told f.new) IsUnlinked)) }
+    ensures loses { OnOk result (WhereUnlinkable (F.told f.old) found.now.entry found.now.before (UnlinkEndsIn (F.told f.new) LosesOne)) }
 
     // The checksum of a record before matched or was absent; that record is the old one with that next, and with its new checksum.
     ensures checked { OnOk result (ForSome (F.told f.old).files (BeforeChecks found.now.before)) }
     ensures sealed { OnOk result (ForSome (F.told f.old).files (λ from. ForSome (F.told f.new).files (IsSealedAgain from found.now.entry found.now.before))) }
     ensures is_open { ForSome (F.told f.new).files (IsOpen files.now) }
-    ensures steps { OnOk result (ForSome (F.told f.old).files (λ from. Applies (F.told f.old) (F.told f.new) (unlink_steps from found.now.entry found.now.before))) }
+    ensures steps { OnOk result (MakesAllOf (F.told f.old) (F.told f.new) (λ from. unlink_steps from found.now.entry found.now.before)) }
     ensures prefix { MakesPartOf (F.told f.old) (F.told f.new) (λ from. unlink_steps from found.now.entry found.now.before) }
 
     // Until that one word is written the chains are the old ones, and from then on the record is unlinked; the checksum of each record matches or is absent, as
     // before.
-    ensures commits { ForSome (F.told f.old).files (λ from. CanBeUnlinked found.now.entry found.now.before from → Commits (words_to_unlink found.now.before) (F.told f.old) (F.told f.new) (IsStillLinked from found.now.entry found.now.before) (IsUnlinked from found.now.entry found.now.before)) }
+    ensures commits { WhereUnlinkable (F.told f.old) found.now.entry found.now.before (CommitsUnlink (F.told f.old) (F.told f.new)) }
 
     // A failed check is a short read or a wrong checksum of the record before, and nothing was written. An observable folder reports one only for such a
     // record.

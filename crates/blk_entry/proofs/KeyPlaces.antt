@@ -35,7 +35,7 @@ use Rattle.blk_io.specs.Faults.{IfDamaged, IsShort}
 use Rattle.blk_external.specs.Reading.{IsFew}
 use Rattle.blk_entry.specs.declared.keys.Head.{Head}
 use Rattle.blk_entry.specs.declared.keys.KeyPlace.{KeyPlace}
-use Rattle.blk_entry.specs.Keys.{IsCut, IsCutKey, IsCutPart, IsCutPiece, IsPlaced, data_name, IsPiece, IsPlaceOfKey, AreKeyBytes, HasData, HasKeyBytes, key_bytes, data_range, data_file, data_start, data_at, held, key_at, key_address, bytes_before, is_short, may_have, may_hold, stores, IsInside, IsInFile, IsRecordHead, HasReadableKey}
+use Rattle.blk_entry.specs.Keys.{IsCut, IsCutKey, IsCutPart, IsCutPiece, IsPlaced, data_name, IsPiece, IsPlaceOfKey, AreKeyBytes, HasData, HasKeyBytes, key_bytes, data_range, data_file, data_start, data_at, long_key_held, key_at, key_address, bytes_before, is_short, may_have, may_hold, stores, IsInside, IsInFile, IsRecordHead, HasReadableKey}
 use Rattle.blk_entry.proofs.Windows.{entry_room}
 
 -- two numbers are different where the test whether they are equal fails
@@ -189,7 +189,7 @@ stores_none files size w address some block_kind count =
     none false = refl
 
 -- a word that is no address stores nothing
-pub not_held : (files : BlockFiles) (k w : ℕ) → (if is_address w then Some w else None) ≡ None → held files k w ≡ None
+pub not_held : (files : BlockFiles) (k w : ℕ) → (if is_address w then Some w else None) ≡ None → long_key_held files k w ≡ None
 unfolding stores is_storage
 not_held files k w none =
     let z : (k + 1 == 0) ≡ false = grind (arith, nat_tests) in
@@ -204,7 +204,7 @@ not_held files k w none =
     by_test false none = refl
 
 -- a word that is held
-pub held_is : (files : BlockFiles) (k w a : ℕ) → Some a ≡ held files k w → (a ≡ w) × (may_hold files k w ≡ true)
+pub held_is : (files : BlockFiles) (k w a : ℕ) → Some a ≡ long_key_held files k w → (a ≡ w) × (may_hold files k w ≡ true)
 held_is files k w a e = by_test (may_hold files k w) refl e
   where
     by_test : (t : Bool) → may_hold files k w ≡ t → Some a ≡ (if t then Some w else None) → (a ≡ w) × (may_hold files k w ≡ true)

@@ -93,6 +93,10 @@ may_hold files key_len w = stores files (key_len + 1) w
 abbrev pub is_short : ℕ → Bool
 is_short key_len = nat_le key_len longest_short_key
 
+-- a key of this length lies in its record, or word w may be its address
+abbrev pub MayHoldIfLong : BlockFiles → ℕ → ℕ → Type 0
+MayHoldIfLong files key_len w = is_short key_len ≡ false → may_hold files key_len w ≡ true
+
 -- where a key lies: the address of its data (the record, or the long key), and how many bytes there are before it
 unfoldable pub key_address : ℕ → ℕ → ℕ → ℕ
 key_address entry key_len long_key = if is_short key_len then entry else long_key
@@ -247,5 +251,5 @@ pub record IsDamageAt (entry at found : ℕ) (fault : Fault) : Type 0 where
   pub word : IsWordOf entry at found damage
 
 -- word w where it may be the address of a long key of so many bytes, else None
-abbrev pub held : BlockFiles → ℕ → ℕ → Option ℕ
-held files key_len w = if may_hold files key_len w then Some w else None
+abbrev pub long_key_held : BlockFiles → ℕ → ℕ → Option ℕ
+long_key_held files key_len w = if may_hold files key_len w then Some w else None

@@ -4,3 +4,4 @@ pub mod Steps
 pub mod Writing
 pub mod Covering
 pub mod Parts
+pub mod EntryClauses

@@ -1,5 +1,5 @@
 -- A new entry: its addresses, its record, its node, and the steps that write them.
-use Rattle.std.specs.Prelude.{ℕ, ◌≡◌, ◌≢◌, ◌⊎◌, ◌+◌, ◌^◌, ◌<◌, ◌≤◌, List, [], ◌∷◌, ◌++◌, length, Bool, true, false, if◌then◌else◌, Option, None, Some, unwrap_or}
+use Rattle.std.specs.Prelude.{ℕ, ◌≡◌, ◌≢◌, ◌⊎◌, ◌+◌, ◌^◌, ◌<◌, ◌≤◌, List, [], ◌∷◌, ◌++◌, length, Bool, true, false, if◌then◌else◌, Option, None, Ok, Some, unwrap_or}
 use Rattle.spec_image.specs.Bytes.{word_bytes, zeros}
 use Rattle.spec_image.specs.Image.{Block, External, Image, length_of}
 use Rattle.spec_image.specs.Steps.{TrailStep, words}
@@ -12,7 +12,7 @@ use Rattle.spec_format.specs.Storage.{entry_blocks, key_place_bytes}
 use Rattle.spec_format.specs.BlockFiles.{KeepsHeaders}
 use Rattle.spec_folder.specs.View.{entry_at, node_at, fields_of, list_of, store_of}
 use Rattle.spec_folder.specs.Entries.{IsPlain, stored_streams}
-use Rattle.spec_folder.specs.Loads.{Loaded}
+use Rattle.spec_folder.specs.Loads.{Loaded, load, unchained_rule}
 use Rattle.blk_disk.specs.declared.tables.BlockFiles.{BlockFiles}
 use Rattle.blk_disk.specs.Tables.{stands_among}
 use Rattle.spec_format.specs.Sealed.{RecordChecks, record_range}
@@ -175,6 +175,10 @@ loaded_new new key = record {
   streams = [] ∷ [] ∷ [] ∷ [];
   others = unwrap_or new.long_key 0 ∷ 0 ∷ 0 ∷ 0 ∷ 0 ∷ [];
 }
+
+-- a new plain entry loads by itself, from its node
+abbrev pub LoadsAlone : NewEntry → List ℕ → Image → Type 0
+LoadsAlone new key image = load (store_of image) (unchained_rule entry_normal) new.node ≡ Ok (loaded_new new key)
 
 -- what the view has of a new entry: a node without links whose checksum matches, its record with the next of its chain, its key, and three empty streams
 pub record IsShownNew (new : NewEntry) (key : List ℕ) (moment : ℕ) (image : Image) : Type 0 where

@@ -1,13 +1,12 @@
 // Keys that are compared with those of entry records.
-ghost use Rattle.std.specs.Prelude.{◌≡◌, ◌≤◌, ◌↔◌, IfOk, IsTrue, None, OnOk, Some, length};
+ghost use Rattle.std.specs.Prelude.{◌≡◌, ◌≤◌, ◌↔◌, IfOk, IsTrue, None, OnOk, length};
 ghost use Rattle.std.specs.Option.{ForSome};
 ghost use Rattle.spec_image.specs.Told.{ReadsOnly};
 ghost use Rattle.spec_format.specs.Address.{blocks_256, kind_of};
-ghost use Rattle.spec_folder.specs.View.{entry_at};
-ghost use Rattle.blk_io.specs.Faults.{IfDamaged, IfDevice};
+ghost use Rattle.blk_io.specs.Faults.{IfDamaged, IfDevice, OkFor};
 ghost use Rattle.blk_disk.specs.Tables.{Agrees, stands_among};
-ghost use Rattle.spec_format.specs.Hash.{hash as hash_of};
-ghost use Rattle.blk_entry.specs.Keys.{AreKeyBytes, CanBeRead, HasBytesOf, HasData, HasKeyBytes, HasKeyPlace, HasReadableKey, HasRecord, IsCut, IsCutPiece, IsEntryOf, IsRecordHead, IsInFile, IsInside, IsKeyDamage, IsPlaceDamage, IsPlaced, bytes_before, data_at, key_address, key_at};
+ghost use Rattle.blk_entry.specs.EntryClauses.{HasBytesByHead, IsKeyByHead, PlacesKeyOf, UndamagedWhereBoth};
+ghost use Rattle.blk_entry.specs.Keys.{AreKeyBytes, CanBeRead, HasBytesOf, HasData, HasKeyBytes, HasReadableKey, HasRecord, IsCut, IsCutPiece, IsEntryOf, IsRecordHead, IsInFile, IsInside, IsKeyDamage, IsPlaceDamage, IsPlaced, data_at};
 
 use crate::data::read_data;
 use crate::keys::{Head, key_place, read_head};
@@ -34,13 +33,13 @@ pub fn key_equals<F: Folder>(
     requires stands { IsTrue (stands_among files.now entry) }
 
     // The answer is true exactly where the bytes at the place that the record's words name are the key.
-    ensures bytes { IfOk result (λ same. ForSome (F.told f.old).files (λ image. IsTrue same ↔ HasBytesOf key.now entry image)) }
-    ensures equal { IfOk result (λ same. ForSome (F.told f.old).files (λ image. HasReadableKey entry image → IsTrue same ↔ IsEntryOf key.now entry image)) }
+    ensures bytes { OkFor result (F.told f.old) (λ same image. IsTrue same ↔ HasBytesOf key.now entry image) }
+    ensures equal { OkFor result (F.told f.old) (λ same image. HasReadableKey entry image → IsTrue same ↔ IsEntryOf key.now entry image) }
 
     // The record's checksum matches or is absent; where hash and length are the key's, the key has a place; where the key is the same, its bytes are in the
     // file.
     ensures checked { OnOk result (ForSome (F.told f.old).files (HasRecord entry)) }
-    ensures placed { OnOk result (ForSome (F.told f.old).files (λ image. (entry_at image entry).hash ≡ hash_of key.now → (entry_at image entry).key_len ≡ length key.now → HasKeyPlace files.now entry image)) }
+    ensures placed { OnOk result (ForSome (F.told f.old).files (PlacesKeyOf files.now key.now entry)) }
     ensures there { IfOk result (λ same. IsTrue same → ForSome (F.told f.old).files (HasKeyBytes entry 0 (length key.now))) }
     ensures reads { ReadsOnly F.told F.faults f.old f.new (IfDevice result) }
 
@@ -72,17 +71,17 @@ pub fn key_is<F: Folder>(
     requires stands { IsTrue (stands_among files.now entry) }
 
     // The answer is true exactly where the bytes at the place that those words name are the key.
-    ensures bytes { IfOk result (λ same. ForSome (F.told folder.old).files (λ image. IsTrue same ↔ AreKeyBytes key.now entry head.now.key_len head.now.long_key image)) }
-    ensures equal { IfOk result (λ same. ForSome (F.told folder.old).files (λ image. IsRecordHead image entry head.now → HasReadableKey entry image → IsTrue same ↔ (key_at image entry ≡ Some key.now))) }
+    ensures bytes { OkFor result (F.told folder.old) (λ same image. IsTrue same ↔ AreKeyBytes key.now entry head.now.key_len head.now.long_key image) }
+    ensures equal { OkFor result (F.told folder.old) (IsKeyByHead key.now entry head.now) }
 
     // Where the length is the key's, the key has a place; where the key is the same, its bytes are in the file.
     ensures placed { OnOk result (head.now.key_len ≡ length key.now → IsPlaced files.now entry head.now.key_len head.now.long_key) }
-    ensures there { IfOk result (λ same. IsTrue same → ForSome (F.told folder.old).files (HasData (key_address entry head.now.key_len head.now.long_key) (bytes_before head.now.key_len) (length key.now))) }
+    ensures there { IfOk result (λ same. IsTrue same → ForSome (F.told folder.old).files (HasBytesByHead entry head.now (length key.now))) }
     ensures reads { ReadsOnly F.told F.faults folder.old folder.new (IfDevice result) }
 
     // An observable folder reports corruption only where the record has no key to read, or the given words aren't the record's.
     ensures damaged { IfDamaged result (IsPlaceDamage files.now (F.told folder.old) entry (length key.now) head.now.long_key) }
-    ensures untold { ForSome (F.told folder.old).files (CanBeRead files.now entry) → ForSome (F.told folder.old).files (λ image. IsRecordHead image entry head.now) → IfDamaged result (λ _. (F.told folder.old).files ≡ None) }
+    ensures untold { UndamagedWhereBoth result (F.told folder.old) (CanBeRead files.now entry) (λ image. IsRecordHead image entry head.now) }
 {
     if head.key_len as usize != key.len() {
         return Ok(false);
@@ -100,10 +99,10 @@ fn data_is<F: Folder>(
     bytes: &[u8],
 ) -> Result<bool, Fault>
     requires inside { IsInside files.now addr at (length bytes.now) }
-    ensures same { IfOk result (λ same. ForSome (F.told folder.old).files (λ image. IsTrue same ↔ (bytes.now ≡ data_at image addr at (length bytes.now)))) }
+    ensures same { OkFor result (F.told folder.old) (λ same image. IsTrue same ↔ (bytes.now ≡ data_at image addr at (length bytes.now))) }
     ensures short { IfDamaged result (IsCutPiece (F.told folder.old) addr at (length bytes.now)) }
     ensures there { IfOk result (λ same. IsTrue same → ForSome (F.told folder.old).files (HasData addr at (length bytes.now))) }
-    ensures untold { ForSome (F.told folder.old).files (Agrees files.now) → ForSome (F.told folder.old).files (IsInFile addr at (length bytes.now)) → IfDamaged result (λ _. (F.told folder.old).files ≡ None) }
+    ensures untold { UndamagedWhereBoth result (F.told folder.old) (Agrees files.now) (IsInFile addr at (length bytes.now)) }
     ensures reads { ReadsOnly F.told F.faults folder.old folder.new (IfDevice result) }
 {
     let mut place = at;
@@ -129,10 +128,10 @@ fn piece_is<F: Folder>(
 ) -> Result<bool, Fault>
     requires few { length bytes.now ≤ 16398 }
     requires inside { IsInside files.now addr at (length bytes.now) }
-    ensures same { IfOk result (λ same. ForSome (F.told folder.old).files (λ image. IsTrue same ↔ (bytes.now ≡ data_at image addr at (length bytes.now)))) }
+    ensures same { OkFor result (F.told folder.old) (λ same image. IsTrue same ↔ (bytes.now ≡ data_at image addr at (length bytes.now))) }
     ensures short { IfDamaged result (IsCut (F.told folder.old) addr at (length bytes.now)) }
     ensures there { IfOk result (λ same. IsTrue same → ForSome (F.told folder.old).files (HasData addr at (length bytes.now))) }
-    ensures untold { ForSome (F.told folder.old).files (Agrees files.now) → ForSome (F.told folder.old).files (IsInFile addr at (length bytes.now)) → IfDamaged result (λ _. (F.told folder.old).files ≡ None) }
+    ensures untold { UndamagedWhereBoth result (F.told folder.old) (Agrees files.now) (IsInFile addr at (length bytes.now)) }
     ensures reads { ReadsOnly F.told F.faults folder.old folder.new (IfDevice result) }
 {
     let mut buffer = [0u8; PIECE];

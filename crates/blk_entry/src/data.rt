@@ -2,11 +2,12 @@
 ghost use Rattle.std.specs.Prelude.{◌≡◌, ◌+◌, ◌≤◌, ◌==◌, None, OnErr, OnOk, length};
 ghost use Rattle.std.specs.Option.{ForSome};
 ghost use Rattle.spec_image.specs.Footprint.{SameOutside};
-ghost use Rattle.spec_image.specs.Told.{Applies, AppliesPrefix, Passes, Rises, ReadsOnly};
+ghost use Rattle.spec_image.specs.Told.{Applies, AppliesPrefix, Rises, ReadsOnly, Stops};
 ghost use Rattle.spec_format.specs.Address.{kind_of};
 ghost use Rattle.blk_addr.specs.Kind.{kind_number};
 ghost use Rattle.blk_io.specs.Faults.{IfDamaged, IfDevice};
 ghost use Rattle.blk_disk.specs.Tables.{Agrees};
+ghost use Rattle.blk_entry.specs.EntryClauses.{UndamagedWhereBoth};
 ghost use Rattle.blk_entry.specs.Keys.{HasData, IsCut, IsInFile, IsInside, data_at, data_range};
 ghost use Rattle.blk_entry.specs.Steps.{data_steps, ended_steps};
 
@@ -33,7 +34,7 @@ pub fn read_data<F: Folder>(
 
     // Too few bytes, which an observable folder gives only where its external file is too short.
     ensures short { IfDamaged result (IsCut (F.told folder.old) addr at (length out.old)) }
-    ensures untold { ForSome (F.told folder.old).files (Agrees files.now) → ForSome (F.told folder.old).files (IsInFile addr at (length out.old)) → IfDamaged result (λ _. (F.told folder.old).files ≡ None) }
+    ensures untold { UndamagedWhereBoth result (F.told folder.old) (Agrees files.now) (IsInFile addr at (length out.old)) }
 {
     if is_of(addr, Kind::External) {
         blk_external::read(folder, addr, u64::from(at), out)
@@ -83,7 +84,7 @@ pub fn write_data<F: Folder>(
     ensures prefix { AppliesPrefix (F.told folder.old) (F.told folder.new) (data_steps addr at bytes.now) }
 
     // At each word no other byte has changed.
-    ensures outside { ForSome (F.told folder.old).files (λ from. Passes (F.told folder.old) (F.told folder.new) (SameOutside (data_range addr at (length bytes.now)) from)) }
+    ensures outside { Stops (F.told folder.old) (F.told folder.new) (SameOutside (data_range addr at (length bytes.now))) }
 
     ensures later { F.faults folder.old ≤ F.faults folder.new }
     ensures failed { OnErr result (Rises (F.faults folder.old) (F.faults folder.new)) }

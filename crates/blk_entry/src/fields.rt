@@ -1,16 +1,17 @@
 // The words of entry records.
-ghost use Rattle.std.specs.Prelude.{◌≡◌, ◌+◌, IfOk, IsTrue, None, OnOk, true};
+ghost use Rattle.std.specs.Prelude.{◌≡◌, ◌+◌, IfOk, IsTrue, None, OnOk};
 ghost use Rattle.std.specs.Option.{ForSome};
 ghost use Rattle.spec_image.specs.Image.{Block as block, HasRange, word};
 ghost use Rattle.spec_image.specs.Told.{ReadsOnly};
 ghost use Rattle.spec_format.specs.Address.{blocks_256, file_selector, kind_of, place, rankings};
 ghost use Rattle.spec_format.specs.Records.{entry_size};
 ghost use Rattle.spec_folder.specs.View.{entry_at};
+ghost use Rattle.blk_entry.specs.EntryClauses.{HasNodeThere, UndamagedWhereBoth};
 ghost use Rattle.blk_entry.specs.Keys.{node_place};
 ghost use Rattle.blk_record.specs.Fields.{IsField};
 ghost use Rattle.blk_io.specs.declared.folder.FileId.TheVariants as FileId;
 ghost use Rattle.blk_io.specs.Faults.{IfDamaged, IfDevice, IsShort};
-ghost use Rattle.blk_disk.specs.Tables.{Agrees, is_node_among, stands_among};
+ghost use Rattle.blk_disk.specs.Tables.{Agrees, stands_among};
 ghost use Rattle.blk_disk.specs.Damages.{IsNodeWordDamage};
 
 use crate::keys::record_damage;
@@ -54,7 +55,7 @@ pub fn node_of<F: Folder>(folder: &mut F, files: &BlockFiles, entry: Addr) -> Re
 
     // An observable folder reports corruption only where the word is of no node that is there.
     ensures damaged { IfDamaged result (IsNodeWordDamage files.now (F.told folder.old) (FileId.Block (file_selector entry)) (place entry + node_place)) }
-    ensures untold { ForSome (F.told folder.old).files (Agrees files.now) → ForSome (F.told folder.old).files (λ image. is_node_among files.now (entry_at image entry).rankings_node ≡ true) → IfDamaged result (λ _. (F.told folder.old).files ≡ None) }
+    ensures untold { UndamagedWhereBoth result (F.told folder.old) (Agrees files.now) (HasNodeThere files.now entry) }
 {
     let word = field(folder, files, entry, EntryView::NODE)?;
     match files.node(word) {

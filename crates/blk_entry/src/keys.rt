@@ -106,7 +106,7 @@ pub fn read_head<F: Folder>(folder: &mut F, files: &BlockFiles, entry: Addr) -> 
 
     // An observable folder reports corruption only for a wrong checksum of the record.
     ensures damaged { IfDamaged result (IsHeadDamage (F.told folder.old) entry) }
-    ensures untold { ForSome (F.told folder.old).files (Agrees files.now) → ForSome (F.told folder.old).files (RecordChecks entry) → IfDamaged result (λ _. (F.told folder.old).files ≡ None) }
+    ensures untold { UndamagedWhereBoth result (F.told folder.old) (Agrees files.now) (RecordChecks entry) }
 {
     let mut window = [0u8; EntryView::SIZE];
     files.read_block(folder, entry, 0, &mut window)?;
@@ -162,7 +162,7 @@ pub(crate) fn key_place(files: &BlockFiles, entry: Addr, head: Head) -> Result<K
     requires stands { IsTrue (stands_among files.now entry) }
     ensures place { IfOk result (IsPlaceOfKey entry head.key_len head.long_key) }
     ensures inside { IfOk result (λ key. IsInside files.now key.addr key.skip key.len) }
-    ensures right { keys.may_have entry head.key_len ≡ true → (is_short head.key_len ≡ false → keys.may_hold files.now head.key_len head.long_key ≡ true) → IsOk result }
+    ensures right { keys.may_have entry head.key_len ≡ true → keys.MayHoldIfLong files.now head.key_len head.long_key → IsOk result }
     ensures placed { IfOk result (λ _. keys.IsPlaced files.now entry head.key_len head.long_key) }
     ensures damaged { IfDamaged result (IsMisplacedKey files.now entry head.key_len head.long_key) }
     ensures never { IfDevice result ⊥ }
@@ -199,7 +199,7 @@ pub fn may_have(entry: Addr, key_len: u32) -> bool
 /// The address of a long key of so many bytes, where the word is one that may hold it.
 pub fn long_key(files: &BlockFiles, key_len: u32, word: u32) -> Option<Addr>
     requires { key_len ≤ keys.most_key }
-    ensures { result ≡ keys.held files.now key_len word }
+    ensures { result ≡ keys.long_key_held files.now key_len word }
 {
     let addr = Addr::from_word(word)?;
     if stores(files, addr, key_len + 1) {

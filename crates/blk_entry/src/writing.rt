@@ -1,5 +1,5 @@
 // New entries: the key, the record and the node are written.
-ghost use Rattle.std.specs.Prelude.{◌≡◌, ◌≤◌, ◌++◌, length, OnErr, OnOk, Ok, IsTrue, false, if◌then◌else◌, unwrap_or};
+ghost use Rattle.std.specs.Prelude.{◌≡◌, ◌≤◌, ◌++◌, length, OnErr, OnOk, IsTrue, false, if◌then◌else◌, unwrap_or};
 ghost use Rattle.std.specs.Option.{ForSome};
 ghost use Rattle.std.specs.List.{All};
 ghost use Rattle.spec_image.specs.Bytes.{zeros};
@@ -9,13 +9,11 @@ ghost use Rattle.spec_format.specs.Address.{kind_of, rankings};
 ghost use Rattle.spec_format.specs.Headers.{HasWholeIndex};
 ghost use Rattle.spec_format.specs.Records as records;
 ghost use Rattle.spec_format.specs.Storage.{key_place_bytes};
-ghost use Rattle.spec_folder.specs.Loads.{unchained_rule, load};
-ghost use Rattle.spec_folder.specs.View.{store_of};
 ghost use Rattle.blk_record.specs.Fields.{IsField};
 ghost use Rattle.blk_io.specs.Faults.{IfDamaged, IfDevice};
 ghost use Rattle.spec_format.specs.Sealed as sealed;
 ghost use Rattle.blk_disk.specs.Tables.{Agrees, stands_among};
-ghost use Rattle.blk_entry.specs.Writing.{AreWords, FitsKey, HoldsLongKey, IsShownNew, IsWritten, LiesApart, WritesEntryInProgress, entry_bytes, entry_steps, key_steps, loaded_new, new_node, new_record, node_bytes, node_steps, record_steps};
+ghost use Rattle.blk_entry.specs.Writing.{AreWords, FitsKey, HoldsLongKey, IsShownNew, IsWritten, LiesApart, LoadsAlone, WritesEntryInProgress, entry_bytes, entry_steps, key_steps, new_node, new_record, node_bytes, node_steps, record_steps};
 
 use crate::data::write_ended;
 use bitflags::Flags;
@@ -66,7 +64,7 @@ pub fn write_entry<F: Folder>(
     ensures shown { OnOk result (ForSome (F.told f.new).files (IsShownNew new.now key.now moment)) }
 
     // A plain entry loads by itself. A part has no index yet.
-    ensures loads { OnOk result (new.now.child ≡ false → ForSome (F.told f.new).files (λ image. load (store_of image) (unchained_rule records.entry_normal) new.now.node ≡ Ok (loaded_new new.now key.now))) }
+    ensures loads { OnOk result (new.now.child ≡ false → ForSome (F.told f.new).files (LoadsAlone new.now key.now)) }
 
     ensures agrees { ForSome (F.told f.new).files (Agrees files.now) }
     ensures complete { ForSome (F.told f.old).files HasWholeIndex → ForSome (F.told f.new).files HasWholeIndex }

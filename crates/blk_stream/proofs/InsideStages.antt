@@ -24,7 +24,7 @@ use Rattle.blk_entry.specs.Steps.{data_steps}
 use Rattle.blk_entry.specs.Writing.{ShareNoBlock}
 use Rattle.blk_external.proofs.Changes.{other_number}
 use Rattle.blk_alloc.proofs.Changing.{within-trans}
-use Rattle.blk_stream.specs.Inside.{WritesInProgress, data_of, here_steps, inside_steps, length_steps, room_steps, size_steps, size_words}
+use Rattle.blk_stream.specs.Inside.{WritesInProgress, data_of, here_steps, inside_steps, external_length_steps, room_steps, size_steps, size_words}
 use Rattle.blk_stream.specs.Stages.{HasPlaceFile, WritesKeepingFiles}
 use Rattle.blk_stream.specs.Streams.{size_place}
 use Rattle.blk_stream.proofs.InsideSteps.{checks_same, fits, here_moments, here_outside, inside_moments, mid_checks, mid_record, mid_sealed, record_same, sealed_within}
@@ -80,7 +80,7 @@ module _ (from : Image) (entry i w old size offset : ℕ) (bytes record_bytes : 
       by_length true here = λ file. refl
       by_length false here = ((λ file. refl), length_there (external_number w) size from here)
 
-      by_test : (t : Bool) → (kind_of w == external) ≡ t → Along S from (if t then length_steps w old size else data_steps w old (zeros (offset - old)))
+      by_test : (t : Bool) → (kind_of w == external) ≡ t → Along S from (if t then external_length_steps w old size else data_steps w old (zeros (offset - old)))
       by_test true t = by_length (size == old) (there (eqb-true (kind_of w) external t))
       by_test false t = bytes_alone (data_steps w old (zeros (offset - old))) from from (data_alone w old (zeros (offset - old))) (λ file. refl)
 

@@ -33,7 +33,7 @@ use Rattle.blk_entry.proofs.Windows.{entry_room, entry_room_least}
 use Rattle.blk_entry.proofs.DataSteps.{data-beside, steps_of_blocks, steps_of_external}
 use Rattle.blk_stream.specs.Streams.{size_place}
 use Rattle.blk_stream.specs.Changing.{record_word}
-use Rattle.blk_stream.specs.Inside.{WritesInProgress, data_of, gap_steps, here_steps, inside_steps, length_steps, room_steps, size_steps, size_words}
+use Rattle.blk_stream.specs.Inside.{WritesInProgress, data_of, gap_steps, here_steps, inside_steps, external_length_steps, room_steps, size_steps, size_words}
 use Rattle.blk_alloc.proofs.Changing.{nothing_within, within-trans}
 use Rattle.blk_stream.proofs.Naming.{apart_place}
 
@@ -55,7 +55,7 @@ pub size_some : (image : List ℕ) (entry i old size : ℕ) → size ≢ old →
 unfolding size_steps
 size_some image entry i old size e = let t : (size == old) ≡ false = grind (arith, nat_tests) in rw t refl
 
-pub room_external : (w old size offset : ℕ) → (kind_of w == external) ≡ true → room_steps w old size offset ≡ length_steps w old size
+pub room_external : (w old size offset : ℕ) → (kind_of w == external) ≡ true → room_steps w old size offset ≡ external_length_steps w old size
 unfolding room_steps
 room_external w old size offset t = rw t refl
 
@@ -115,7 +115,7 @@ data_within w at bytes fits =
     (words_within (Block (file_selector w)) (place w + at) (place w) (byte_size w) bytes (omega arith) (omega (arith, h)))))
     (cases_Bool (kind_of w == external))
 
-length_within : (w old size : ℕ) → kind_of w ≡ external → IsWithin (touched_by_all (length_steps w old size)) (data_of w)
+length_within : (w old size : ℕ) → kind_of w ≡ external → IsWithin (touched_by_all (external_length_steps w old size)) (data_of w)
 length_within w old size kind = by_test (size == old)
   where
     by_test : (t : Bool) → IsWithin (touched_by_all (if t then [] else SetLength (External (external_number w)) size ∷ [])) (data_of w)

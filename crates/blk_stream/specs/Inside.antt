@@ -18,12 +18,12 @@ abbrev pub gap_steps : ℕ → ℕ → ℕ → List TrailStep
 gap_steps w start end = data_steps w start (zeros (end - start))
 
 -- the step that sets the length of the external file of address w, or none where it has that length
-abbrev pub length_steps : ℕ → ℕ → ℕ → List TrailStep
-length_steps w old size = if size == old then [] else SetLength (External (external_number w)) size ∷ []
+abbrev pub external_length_steps : ℕ → ℕ → ℕ → List TrailStep
+external_length_steps w old size = if size == old then [] else SetLength (External (external_number w)) size ∷ []
 
 -- the steps that make space before the bytes of a write: an external file gets its new length; in blocks zeros are written between the old end and the offset
 unfoldable pub room_steps : ℕ → ℕ → ℕ → ℕ → List TrailStep
-room_steps w old size offset = if kind_of w == external then length_steps w old size else gap_steps w old offset
+room_steps w old size offset = if kind_of w == external then external_length_steps w old size else gap_steps w old offset
 
 -- the steps that change the data at address w: space is made, and then the bytes are written at the offset
 abbrev pub here_steps : ℕ → ℕ → ℕ → ℕ → List ℕ → List TrailStep

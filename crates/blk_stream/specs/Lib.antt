@@ -13,3 +13,5 @@ pub mod Loading
 pub mod Placing
 pub mod Shown
 pub mod Stages
+pub mod StreamClauses
+pub mod WriteClauses

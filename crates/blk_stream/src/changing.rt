@@ -1,14 +1,13 @@
 // The record names another place for a stream.
-ghost use Rattle.std.specs.Prelude.{◌≡◌, ◌<◌, true, IsTrue, OnErr, OnOk, length};
+ghost use Rattle.std.specs.Prelude.{◌≡◌, ◌<◌, IsTrue, OnErr, OnOk, length};
 ghost use Rattle.std.specs.Option.{ForSome};
-ghost use Rattle.spec_image.specs.Told.{Passes, MayWrite};
+ghost use Rattle.spec_image.specs.Told.{MayWrite};
 ghost use Rattle.spec_format.specs.Address.{blocks_256, kind_of};
-ghost use Rattle.spec_format.specs.Records.{entry_is_sealed, entry_size};
-ghost use Rattle.spec_format.specs.Sealed.{RecordChecks, record_at};
-ghost use Rattle.spec_folder.specs.View.{entry_at};
+ghost use Rattle.spec_format.specs.Records.{entry_size};
 ghost use Rattle.blk_disk.specs.Tables.{Agrees, stands_among};
 ghost use Rattle.blk_stream.specs.Changing.{HasWords, NamesInProgress};
 ghost use Rattle.blk_stream.specs.Stages.{NamesShown};
+ghost use Rattle.blk_stream.specs.StreamClauses.{AreRecordBytes, HasRecordSeal, LeavesRead, StopsChecked};
 
 use crate::places::{addr_at, size_at};
 use blk_addr::Addr;
@@ -30,12 +29,12 @@ pub(crate) fn name_place<F: Folder>(
     requires stands { IsTrue (stands_among files.now entry) }
     requires long { length bytes.old ≡ entry_size }
     requires agrees { ForSome (F.told folder.old).files (Agrees files.now) }
-    ensures named { OnOk result (ForSome (F.told folder.old).files (λ from. bytes.old ≡ record_at from entry → ForSome (F.told folder.new).files (HasWords entry stream size word))) }
-    ensures read { OnOk result (ForSome (F.told folder.old).files (λ from. bytes.old ≡ record_at from entry → ForSome (F.told folder.new).files (λ image. bytes.new ≡ record_at image entry))) }
-    ensures sealed { OnOk result (ForSome (F.told folder.old).files (λ from. bytes.old ≡ record_at from entry → ForSome (F.told folder.new).files (λ image. entry_is_sealed (entry_at image entry) ≡ true))) }
+    ensures named { OnOk result (LeavesRead (F.told folder.old) (F.told folder.new) bytes.old entry (λ from. HasWords entry stream size word)) }
+    ensures read { OnOk result (LeavesRead (F.told folder.old) (F.told folder.new) bytes.old entry (λ from. AreRecordBytes bytes.new entry)) }
+    ensures sealed { OnOk result (LeavesRead (F.told folder.old) (F.told folder.new) bytes.old entry (λ from. HasRecordSeal entry)) }
     ensures long { length bytes.new ≡ entry_size }
-    ensures stops { ForSome (F.told folder.old).files (λ from. bytes.old ≡ record_at from entry → RecordChecks entry from → Passes (F.told folder.old) (F.told folder.new) (NamesInProgress entry stream from)) }
-    ensures stages { ForSome (F.told folder.old).files (λ from. bytes.old ≡ record_at from entry → RecordChecks entry from → Passes (F.told folder.old) (F.told folder.new) (NamesShown entry stream from)) }
+    ensures stops { StopsChecked (F.told folder.old) (F.told folder.new) bytes.old entry (NamesInProgress entry stream) }
+    ensures stages { StopsChecked (F.told folder.old) (F.told folder.new) bytes.old entry (NamesShown entry stream) }
     ensures agrees { ForSome (F.told folder.new).files (Agrees files.now) }
     ensures writes { MayWrite F.told F.faults folder.old folder.new (OnErr result) }
 {

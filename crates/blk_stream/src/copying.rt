@@ -1,13 +1,14 @@
 // Data is copied from one address to another.
-ghost use Rattle.std.specs.Prelude.{◌≡◌, ◌+◌, ◌≤◌, ◌<◌, None, OnOk, length, unwrap_or};
+ghost use Rattle.std.specs.Prelude.{◌≡◌, ◌+◌, ◌≤◌, ◌<◌, OnOk, length};
 ghost use Rattle.std.specs.Option.{ForSome};
 ghost use Rattle.spec_image.specs.Footprint.{SameOutside};
-ghost use Rattle.spec_image.specs.Told.{Applies, MakesPartOf, Passes, Rises, MayWrite};
-ghost use Rattle.blk_io.specs.Faults.{IfDamaged, IfDevice};
+ghost use Rattle.spec_image.specs.Told.{LeavesWhere, MakesPartOf, MayWrite, Rises, Stops};
+ghost use Rattle.blk_io.specs.Faults.{IfDamaged, IfDevice, UndamagedWhere};
 ghost use Rattle.blk_disk.specs.Tables.{Agrees};
 ghost use Rattle.blk_entry.specs.Keys.{IsCut, IsInFile, IsInside, data_at};
 ghost use Rattle.blk_entry.specs.Steps.{data_steps};
-ghost use Rattle.blk_stream.specs.Copying.{AreOldBytes, HasOldPlace, IsCopied, IsCutOld, IsCutPrefix, IsOldThere, ShareNoData, old_spans, span_of};
+ghost use Rattle.blk_stream.specs.StreamClauses.{AreOldBytesOf, HasOldApart, MakesWhole};
+ghost use Rattle.blk_stream.specs.Copying.{HasOldPlace, IsCopied, IsCutOld, IsCutPrefix, IsOldThere, ShareNoData, old_spans, span_of};
 
 use crate::places::Stored;
 use blk_addr::Addr;
@@ -31,12 +32,12 @@ pub(crate) fn copy<F: Folder>(
     requires to_inside { IsInside files.now to 0 end }
     requires agrees { ForSome (F.told folder.old).files (Agrees files.now) }
     requires to_there { ForSome (F.told folder.old).files (IsInFile to 0 end) }
-    ensures copied { OnOk result (ForSome (F.told folder.old).files (λ old. ShareNoData from to → ForSome (F.told folder.new).files (IsCopied from to start end old))) }
-    ensures stops { ForSome (F.told folder.old).files (λ old. Passes (F.told folder.old) (F.told folder.new) (SameOutside (span_of to start end) old)) }
+    ensures copied { OnOk result (LeavesWhere (F.told folder.old) (F.told folder.new) (λ old. ShareNoData from to) (IsCopied from to start end)) }
+    ensures stops { Stops (F.told folder.old) (F.told folder.new) (SameOutside (span_of to start end)) }
     ensures writes { MayWrite F.told F.faults folder.old folder.new (IfDevice result) }
     ensures agrees { ForSome (F.told folder.new).files (Agrees files.now) }
     ensures damaged { IfDamaged result (IsCutPrefix (F.told folder.new) from end) }
-    ensures untold { ForSome (F.told folder.old).files (IsInFile from 0 end) → IfDamaged result (λ _. (F.told folder.old).files ≡ None) }
+    ensures untold { UndamagedWhere result (F.told folder.old) (IsInFile from 0 end) }
 {
     let mut buffer = [0u8; PIECE as usize];
     let mut at = start;
@@ -61,11 +62,11 @@ fn copy_piece<F: Folder>(
     requires to_inside { IsInside files.now to at (length piece.old) }
     requires agrees { ForSome (F.told folder.old).files (Agrees files.now) }
     requires to_there { ForSome (F.told folder.old).files (IsInFile to at (length piece.old)) }
-    ensures steps { OnOk result (ForSome (F.told folder.old).files (λ old. Applies (F.told folder.old) (F.told folder.new) (data_steps to at (data_at old from at (length piece.old))))) }
+    ensures steps { OnOk result (MakesWhole (F.told folder.old) (F.told folder.new) (λ old. data_steps to at (data_at old from at (length piece.old)))) }
     ensures prefix { MakesPartOf (F.told folder.old) (F.told folder.new) (λ old. data_steps to at (data_at old from at (length piece.old))) }
     ensures agrees { ForSome (F.told folder.new).files (Agrees files.now) }
     ensures damaged { IfDamaged result (IsCut (F.told folder.new) from at (length piece.old)) }
-    ensures untold { ForSome (F.told folder.old).files (IsInFile from at (length piece.old)) → IfDamaged result (λ _. (F.told folder.old).files ≡ None) }
+    ensures untold { UndamagedWhere result (F.told folder.old) (IsInFile from at (length piece.old)) }
     ensures later { F.faults folder.old ≤ F.faults folder.new }
     ensures device { IfDevice result (Rises (F.faults folder.old) (F.faults folder.new)) }
     ensures long { length piece.new ≡ length piece.old }
@@ -90,12 +91,12 @@ pub(crate) fn copy_old<F: Folder>(
     requires few { offset + count ≤ size }
     requires agrees { ForSome (F.told folder.old).files (Agrees files.now) }
     requires there { ForSome (F.told folder.old).files (IsInFile to 0 size) }
-    ensures copied { OnOk result (ForSome (F.told folder.old).files (λ from. ShareNoData (unwrap_or old.addr 0) to → ForSome (F.told folder.new).files (AreOldBytes (unwrap_or old.addr 0) to old.size size offset count from))) }
-    ensures stops { ForSome (F.told folder.old).files (λ from. Passes (F.told folder.old) (F.told folder.new) (SameOutside (old_spans to old.size size offset count) from)) }
+    ensures copied { OnOk result (LeavesWhere (F.told folder.old) (F.told folder.new) (HasOldApart old to) (AreOldBytesOf old to size offset count)) }
+    ensures stops { Stops (F.told folder.old) (F.told folder.new) (SameOutside (old_spans to old.size size offset count)) }
     ensures writes { MayWrite F.told F.faults folder.old folder.new (IfDevice result) }
     ensures agrees { ForSome (F.told folder.new).files (Agrees files.now) }
     ensures damaged { IfDamaged result (IsCutOld (F.told folder.new) old) }
-    ensures untold { ForSome (F.told folder.old).files (IsOldThere old) → IfDamaged result (λ _. (F.told folder.old).files ≡ None) }
+    ensures untold { UndamagedWhere result (F.told folder.old) (IsOldThere old) }
 {
     let Some(from) = old.addr else {
         return Ok(());

@@ -1,16 +1,17 @@
 // The streams of an entry are dropped.
-ghost use Rattle.std.specs.Prelude.{◌≡◌, ◌<◌, IsTrue, None, OnOk, length};
+ghost use Rattle.std.specs.Prelude.{◌≡◌, ◌<◌, IsTrue, OnOk, length};
 ghost use Rattle.std.specs.Option.{ForSome};
-ghost use Rattle.spec_image.specs.Told.{Passes, MayWrite};
+ghost use Rattle.spec_image.specs.Told.{Leaves, MayWrite, StopsWhere};
 ghost use Rattle.spec_format.specs.Address.{blocks_256, kind_of};
 ghost use Rattle.spec_format.specs.Records.{entry_size};
-ghost use Rattle.spec_format.specs.Sealed.{RecordChecks, record_at};
-ghost use Rattle.blk_io.specs.Faults.{IfDamaged, IfDevice};
+ghost use Rattle.spec_format.specs.Sealed.{RecordChecks};
+ghost use Rattle.blk_io.specs.Faults.{IfDamaged, IfDevice, UndamagedWhere};
 ghost use Rattle.blk_disk.specs.Tables.{Agrees, stands_among};
+ghost use Rattle.blk_stream.specs.StreamClauses.{AreRecordBytes, LeavesChecked, LeavesRead, StopsChecked, UndamagedChecked};
 ghost use Rattle.blk_stream.specs.Dropping.{AreDropped, DropsInProgress, DropsStream, DropsStreamInProgress, IsDropDamage, IsStreamDropDamage, StreamCanBeDropped, StreamsCanBeDropped};
 
 use crate::moving::leave_place;
-use crate::places::stored_in;
+use crate::places::{StreamWords, stored_in};
 use blk_addr::Addr;
 use blk_disk::BlockFiles;
 use blk_io::{Fault, Folder};
@@ -29,16 +30,16 @@ pub fn drop_streams<F: Folder>(f: &mut F, files: &BlockFiles, entry: Addr) -> Re
     ensures checked { OnOk result (ForSome (F.told f.old).files (RecordChecks entry)) }
 
     // No stream has bytes or a place; the blocks of those that did aren't marked, and their files are deleted; all else is as before.
-    ensures dropped { OnOk result (ForSome (F.told f.old).files (λ from. ForSome (F.told f.new).files (AreDropped 3 entry from))) }
+    ensures dropped { OnOk result (Leaves (F.told f.old) (F.told f.new) (AreDropped 3 entry)) }
     ensures agrees { ForSome (F.told f.new).files (Agrees files.now) }
 
     // At each word the record's checksum matches or is absent, and nothing but the words of the streams and their places has changed; until the record names a
     // stream no longer, its place is as it was; and a well-formed folder is well formed.
-    ensures stops { ForSome (F.told f.old).files (λ from. RecordChecks entry from → Passes (F.told f.old) (F.told f.new) (DropsInProgress entry from)) }
+    ensures stops { StopsWhere (F.told f.old) (F.told f.new) (RecordChecks entry) (DropsInProgress entry) }
 
     // An observable folder reports corruption only where the record has a wrong checksum, or a stream isn't stored and allocated alone.
     ensures damaged { IfDamaged result (IsDropDamage files.now (F.told f.old) (F.told f.new) entry) }
-    ensures untold { ForSome (F.told f.old).files (StreamsCanBeDropped entry) → IfDamaged result (λ _. (F.told f.old).files ≡ None) }
+    ensures untold { UndamagedWhere result (F.told f.old) (StreamsCanBeDropped entry) }
     ensures writes { MayWrite F.told F.faults f.old f.new (IfDevice result) }
 {
     let mut bytes = [0u8; EntryView::SIZE];
@@ -62,18 +63,26 @@ fn drop_stream<F: Folder>(
     requires stands { IsTrue (stands_among files.now entry) }
     requires long { length bytes.old ≡ entry_size }
     requires agrees { ForSome (F.told folder.old).files (Agrees files.now) }
-    ensures dropped { OnOk result (ForSome (F.told folder.old).files (λ from. bytes.old ≡ record_at from entry → RecordChecks entry from → ForSome (F.told folder.new).files (DropsStream entry stream from))) }
-    ensures read { OnOk result (ForSome (F.told folder.old).files (λ from. bytes.old ≡ record_at from entry → ForSome (F.told folder.new).files (λ image. bytes.new ≡ record_at image entry))) }
+    ensures dropped { OnOk result (LeavesChecked (F.told folder.old) (F.told folder.new) bytes.old entry (DropsStream entry stream)) }
+    ensures read { OnOk result (LeavesRead (F.told folder.old) (F.told folder.new) bytes.old entry (λ from. AreRecordBytes bytes.new entry)) }
     ensures long { length bytes.new ≡ entry_size }
-    ensures stops { ForSome (F.told folder.old).files (λ from. bytes.old ≡ record_at from entry → RecordChecks entry from → Passes (F.told folder.old) (F.told folder.new) (DropsStreamInProgress entry stream from)) }
+    ensures stops { StopsChecked (F.told folder.old) (F.told folder.new) bytes.old entry (DropsStreamInProgress entry stream) }
     ensures agrees { ForSome (F.told folder.new).files (Agrees files.now) }
     ensures damaged { IfDamaged result (IsStreamDropDamage files.now (F.told folder.new) entry stream) }
-    ensures untold { ForSome (F.told folder.old).files (λ from. bytes.old ≡ record_at from entry × RecordChecks entry from × StreamCanBeDropped files.now entry stream from) → IfDamaged result (λ _. (F.told folder.old).files ≡ None) }
+    ensures untold { UndamagedChecked result (F.told folder.old) bytes.old entry (StreamCanBeDropped files.now entry stream) }
     ensures writes { MayWrite F.told F.faults folder.old folder.new (IfDevice result) }
 {
     let old = stored_in(files, entry, stream, bytes)?;
     let Some(addr) = old.addr else {
         return Ok(());
     };
-    leave_place(folder, files, entry, stream, bytes, addr, 0, 0)
+    leave_place(
+        folder,
+        files,
+        entry,
+        stream,
+        bytes,
+        addr,
+        StreamWords { size: 0, word: 0 },
+    )
 }

@@ -1,15 +1,15 @@
 // A new place gets the bytes of a stream.
-ghost use Rattle.std.specs.Prelude.{◌≡◌, ◌==◌, ◌+◌, ◌≤◌, ◌<◌, None, OnOk, if◌then◌else◌, length, unwrap_or};
+ghost use Rattle.std.specs.Prelude.{◌≡◌, ◌==◌, ◌+◌, ◌≤◌, ◌<◌, OnOk, if◌then◌else◌, length, unwrap_or};
 ghost use Rattle.std.specs.Option.{ForSome};
 ghost use Rattle.spec_image.specs.Footprint.{SameOutside};
-ghost use Rattle.spec_image.specs.Told.{Passes, MayWrite};
+ghost use Rattle.spec_image.specs.Told.{MayWrite, Stops};
 ghost use Rattle.spec_format.specs.Address.{external, kind_of};
-ghost use Rattle.blk_io.specs.Faults.{IfDamaged, IfDevice};
+ghost use Rattle.blk_io.specs.Faults.{IfDamaged, IfDevice, OpaqueIfDamaged};
 ghost use Rattle.blk_disk.specs.Tables.{Agrees};
 ghost use Rattle.blk_entry.specs.Keys.{IsInside};
-ghost use Rattle.blk_stream.specs.Copying.{HasOldPlace, IsCutOld, IsOldThere, ShareNoData, ShareNoFile};
-ghost use Rattle.blk_stream.specs.Inside.{HasStreamLength, data_of};
-ghost use Rattle.blk_stream.specs.Filling.{FillsPlace};
+ghost use Rattle.blk_stream.specs.Copying.{HasOldPlace, IsCutOld, IsOldThere, ShareNoFile};
+ghost use Rattle.blk_stream.specs.Inside.{data_of};
+ghost use Rattle.blk_stream.specs.StreamClauses.{LeavesFilled};
 
 use crate::copying::copy_old;
 use crate::inside::{extend_data, write_some};
@@ -33,11 +33,11 @@ pub(crate) fn fill<F: Folder>(
     requires inside { IsInside files.now addr 0 size }
     requires few { offset + length bytes.now ≤ size }
     requires agrees { ForSome (F.told folder.old).files (Agrees files.now) }
-    ensures filled { OnOk result (ForSome (F.told folder.old).files (λ from. ShareNoData (unwrap_or old.addr 0) addr → HasStreamLength addr 0 from → ForSome (F.told folder.new).files (FillsPlace (unwrap_or old.addr 0) addr old.size size offset bytes.now from))) }
-    ensures stops { ForSome (F.told folder.old).files (λ from. Passes (F.told folder.old) (F.told folder.new) (SameOutside (data_of addr) from)) }
+    ensures filled { OnOk result (LeavesFilled (F.told folder.old) (F.told folder.new) old addr size offset bytes.now) }
+    ensures stops { Stops (F.told folder.old) (F.told folder.new) (SameOutside (data_of addr)) }
     ensures agrees { ForSome (F.told folder.new).files (Agrees files.now) }
     ensures damaged { IfDamaged result (IsCutOld (F.told folder.new) old) }
-    ensures untold { ForSome (F.told folder.old).files (IsOldThere old) → ShareNoFile (unwrap_or old.addr 0) addr → IfDamaged result (λ _. (F.told folder.old).files ≡ None) }
+    ensures untold { ForSome (F.told folder.old).files (IsOldThere old) → ShareNoFile (unwrap_or old.addr 0) addr → OpaqueIfDamaged result (F.told folder.old) }
     ensures writes { MayWrite F.told F.faults folder.old folder.new (IfDevice result) }
 {
     let start = room_start(addr, old.size);

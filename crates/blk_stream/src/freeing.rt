@@ -1,13 +1,13 @@
 // The place of data is freed.
-ghost use Rattle.std.specs.Prelude.{◌≡◌, ◌≢◌, false, IsTrue, None, OnErr, OnOk};
+ghost use Rattle.std.specs.Prelude.{◌≡◌, ◌≢◌, IsTrue, OnErr, OnOk};
 ghost use Rattle.std.specs.Option.{ForSome};
 ghost use Rattle.spec_image.specs.Footprint.{SameOutside};
-ghost use Rattle.spec_image.specs.Told.{Passes, Stays, MayWrite};
-ghost use Rattle.spec_format.specs.Address.{block_count, external, file_selector, first_block, kind_of};
-ghost use Rattle.blk_io.specs.Faults.{IfDamaged, IfDevice};
+ghost use Rattle.spec_image.specs.Told.{Leaves, MayWrite, Stays, Stops};
+ghost use Rattle.spec_format.specs.Address.{external, kind_of};
+ghost use Rattle.blk_io.specs.Faults.{IfDamaged, IfDevice, UndamagedWhere};
 ghost use Rattle.blk_disk.specs.Tables.{Agrees, stands_among};
-ghost use Rattle.blk_alloc.specs.Owning.{IsCause};
 ghost use Rattle.blk_stream.specs.Freeing.{IsPlaceFreed, MayBeFreed, freeing_of};
+ghost use Rattle.blk_stream.specs.StreamClauses.{IsFreeingCause};
 ghost use Rattle.blk_stream.specs.Stages.{FreesPlace, FreesPlaceInProgress};
 
 use crate::places::is_of;
@@ -23,14 +23,14 @@ pub(crate) fn free_place<F: Folder>(
 ) -> Result<(), Fault>
     requires stands { kind_of addr ≢ external → IsTrue (stands_among files.now addr) }
     requires agrees { ForSome (F.told folder.old).files (Agrees files.now) }
-    ensures freed { OnOk result (ForSome (F.told folder.old).files (λ from. ForSome (F.told folder.new).files (IsPlaceFreed addr from))) }
-    ensures frees { OnOk result (ForSome (F.told folder.old).files (λ from. ForSome (F.told folder.new).files (FreesPlace addr from))) }
-    ensures stops { ForSome (F.told folder.old).files (λ from. Passes (F.told folder.old) (F.told folder.new) (SameOutside (freeing_of addr) from)) }
-    ensures stages { ForSome (F.told folder.old).files (λ from. Passes (F.told folder.old) (F.told folder.new) (FreesPlaceInProgress addr from)) }
+    ensures freed { OnOk result (Leaves (F.told folder.old) (F.told folder.new) (IsPlaceFreed addr)) }
+    ensures frees { OnOk result (Leaves (F.told folder.old) (F.told folder.new) (FreesPlace addr)) }
+    ensures stops { Stops (F.told folder.old) (F.told folder.new) (SameOutside (freeing_of addr)) }
+    ensures stages { Stops (F.told folder.old) (F.told folder.new) (FreesPlaceInProgress addr) }
     ensures agrees { ForSome (F.told folder.new).files (Agrees files.now) }
-    ensures cause { IfDamaged result (λ damage. (kind_of addr ≢ external) × IsCause (F.told folder.old) (file_selector addr) (first_block addr) (block_count addr) false damage) }
+    ensures cause { IfDamaged result (IsFreeingCause (F.told folder.old) addr) }
     ensures unwritten { IfDamaged result (λ _. Stays (F.told folder.old) (F.told folder.new)) }
-    ensures untold { ForSome (F.told folder.old).files (MayBeFreed addr) → IfDamaged result (λ _. (F.told folder.old).files ≡ None) }
+    ensures untold { UndamagedWhere result (F.told folder.old) (MayBeFreed addr) }
     ensures writes { MayWrite F.told F.faults folder.old folder.new (IfDevice result) }
 {
     if is_of(addr, Kind::External) {
@@ -45,10 +45,10 @@ pub(crate) fn free_place<F: Folder>(
 fn delete_file<F: Folder>(folder: &mut F, files: &BlockFiles, addr: Addr) -> Result<(), Failed>
     requires kind { kind_of addr ≡ external }
     requires agrees { ForSome (F.told folder.old).files (Agrees files.now) }
-    ensures freed { OnOk result (ForSome (F.told folder.old).files (λ from. ForSome (F.told folder.new).files (IsPlaceFreed addr from))) }
-    ensures frees { OnOk result (ForSome (F.told folder.old).files (λ from. ForSome (F.told folder.new).files (FreesPlace addr from))) }
-    ensures stops { ForSome (F.told folder.old).files (λ from. Passes (F.told folder.old) (F.told folder.new) (SameOutside (freeing_of addr) from)) }
-    ensures stages { ForSome (F.told folder.old).files (λ from. Passes (F.told folder.old) (F.told folder.new) (FreesPlaceInProgress addr from)) }
+    ensures freed { OnOk result (Leaves (F.told folder.old) (F.told folder.new) (IsPlaceFreed addr)) }
+    ensures frees { OnOk result (Leaves (F.told folder.old) (F.told folder.new) (FreesPlace addr)) }
+    ensures stops { Stops (F.told folder.old) (F.told folder.new) (SameOutside (freeing_of addr)) }
+    ensures stages { Stops (F.told folder.old) (F.told folder.new) (FreesPlaceInProgress addr) }
     ensures agrees { ForSome (F.told folder.new).files (Agrees files.now) }
     ensures writes { MayWrite F.told F.faults folder.old folder.new (OnErr result) }
 {

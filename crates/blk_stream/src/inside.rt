@@ -1,18 +1,17 @@
 // A stream is written inside its place.
 ghost use Rattle.std.specs.Prelude.{◌≡◌, ◌≢◌, ◌+◌, ◌≤◌, ◌<◌, IsTrue, OnErr, OnOk, length};
 ghost use Rattle.std.specs.Option.{ForSome};
-ghost use Rattle.spec_image.specs.Told.{Applies, AppliesPrefix, Passes, Rises, ReadsOnly};
+ghost use Rattle.spec_image.specs.Told.{Applies, AppliesPrefix, Rises, ReadsOnly};
 ghost use Rattle.spec_format.specs.Address.{blocks_256, byte_size, external, kind_of};
 ghost use Rattle.spec_format.specs.Records.{entry_size};
-ghost use Rattle.spec_format.specs.Sealed.{RecordChecks, record_at};
 ghost use Rattle.blk_disk.specs.Tables.{Agrees, stands_among};
 ghost use Rattle.blk_entry.specs.Keys.{IsInFile, IsInside};
 ghost use Rattle.blk_entry.specs.Steps.{data_steps};
-ghost use Rattle.blk_entry.specs.Writing.{ShareNoBlock};
-ghost use Rattle.blk_stream.specs.Stages.{HasPlaceFile, KeepsSeal, WritesKeepingFiles};
-ghost use Rattle.blk_stream.specs.Inside.{HasStreamLength, WritesInProgress, WritesInside, gap_steps, here_steps, inside_steps, length_steps, room_steps, size_steps};
+ghost use Rattle.blk_stream.specs.Stages.{KeepsSeal, WritesKeepingFiles};
+ghost use Rattle.blk_stream.specs.Inside.{WritesInProgress, external_length_steps, gap_steps, here_steps, room_steps, size_steps};
+ghost use Rattle.blk_stream.specs.WriteClauses.{LeavesInside, LeavesWrittenInside, StopsInside, StopsInsideFile, steps_over_place};
 
-use crate::places::{is_of, size_at};
+use crate::places::{StreamWrite, is_of, size_at};
 use blk_addr::{Addr, Kind};
 use blk_disk::{BlockFiles, room_of};
 use blk_entry::write_data;
@@ -26,33 +25,37 @@ const MOST_IN_BLOCKS: usize = 16384;
 pub(crate) fn write_inside<F: Folder>(
     folder: &mut F,
     files: &BlockFiles,
-    entry: Addr,
-    stream: u8,
+    write: StreamWrite,
     record_bytes: &mut [u8],
     addr: Addr,
     old: u32,
     size: u32,
-    offset: u32,
-    bytes: &[u8],
 ) -> Result<(), Failed>
-    requires stream { stream < 3 }
-    requires kind { kind_of entry ≡ blocks_256 }
-    requires stands { IsTrue (stands_among files.now entry) }
+    requires stream { write.stream < 3 }
+    requires kind { kind_of write.entry ≡ blocks_256 }
+    requires stands { IsTrue (stands_among files.now write.entry) }
     requires record_size { length record_bytes.old ≡ entry_size }
     requires inside { IsInside files.now addr 0 size }
-    requires few { offset + length bytes.now ≤ size }
+    requires few { write.offset + length write.bytes.now ≤ size }
     requires agrees { ForSome (F.told folder.old).files (Agrees files.now) }
     requires external { ForSome (F.told folder.old).files (IsInFile addr 0 old) }
-    ensures steps { OnOk result (Applies (F.told folder.old) (F.told folder.new) (inside_steps record_bytes.old entry stream addr old size offset bytes.now)) }
-    ensures prefix { AppliesPrefix (F.told folder.old) (F.told folder.new) (inside_steps record_bytes.old entry stream addr old size offset bytes.now) }
-    ensures written { OnOk result (ForSome (F.told folder.old).files (λ from. record_bytes.old ≡ record_at from entry → RecordChecks entry from → HasStreamLength addr old from → (kind_of addr ≢ external → ShareNoBlock entry addr) → ForSome (F.told folder.new).files (WritesInside entry stream addr old size offset bytes.now from))) }
-    ensures stops { ForSome (F.told folder.old).files (λ from. record_bytes.old ≡ record_at from entry → RecordChecks entry from → (kind_of addr ≢ external → ShareNoBlock entry addr) → Passes (F.told folder.old) (F.told folder.new) (WritesInProgress entry stream addr from)) }
-    ensures stages { ForSome (F.told folder.old).files (λ from. record_bytes.old ≡ record_at from entry → RecordChecks entry from → (kind_of addr ≢ external → ShareNoBlock entry addr) → HasPlaceFile addr from → Passes (F.told folder.old) (F.told folder.new) (WritesKeepingFiles entry stream addr from)) }
-    ensures sealed { OnOk result (ForSome (F.told folder.old).files (λ from. record_bytes.old ≡ record_at from entry → RecordChecks entry from → (kind_of addr ≢ external → ShareNoBlock entry addr) → ForSome (F.told folder.new).files (KeepsSeal entry from))) }
+    ensures steps { OnOk result (Applies (F.told folder.old) (F.told folder.new) (steps_over_place record_bytes.old write.entry addr old size)) }
+    ensures prefix { AppliesPrefix (F.told folder.old) (F.told folder.new) (steps_over_place record_bytes.old write.entry addr old size) }
+    ensures written { OnOk result (LeavesWrittenInside (F.told folder.old) (F.told folder.new) record_bytes.old write.entry addr old size) }
+    ensures stops { StopsInside (F.told folder.old) (F.told folder.new) record_bytes.old write.entry addr WritesInProgress }
+    ensures stages { StopsInsideFile (F.told folder.old) (F.told folder.new) record_bytes.old write.entry addr WritesKeepingFiles }
+    ensures sealed { OnOk result (LeavesInside (F.told folder.old) (F.told folder.new) record_bytes.old write.entry.entry addr (KeepsSeal write.entry.entry)) }
     ensures agrees { ForSome (F.told folder.new).files (Agrees files.now) }
     ensures later { F.faults folder.old ≤ F.faults folder.new }
     ensures failed { OnErr result (Rises (F.faults folder.old) (F.faults folder.new)) }
 {
+    let StreamWrite {
+        entry,
+        stream,
+        offset,
+        bytes,
+        ..
+    } = write;
     write_here(folder, files, addr, old, size, offset, bytes)?;
     write_size(folder, files, entry, stream, record_bytes, old, size)
 }
@@ -139,8 +142,8 @@ fn set_size<F: Folder>(
     requires kind { kind_of addr ≡ external }
     requires agrees { ForSome (F.told folder.old).files (Agrees files.now) }
     requires external { ForSome (F.told folder.old).files (IsInFile addr 0 old) }
-    ensures steps { OnOk result (Applies (F.told folder.old) (F.told folder.new) (length_steps addr old size)) }
-    ensures prefix { AppliesPrefix (F.told folder.old) (F.told folder.new) (length_steps addr old size) }
+    ensures steps { OnOk result (Applies (F.told folder.old) (F.told folder.new) (external_length_steps addr old size)) }
+    ensures prefix { AppliesPrefix (F.told folder.old) (F.told folder.new) (external_length_steps addr old size) }
     ensures external { OnOk result (ForSome (F.told folder.new).files (IsInFile addr 0 size)) }
     ensures agrees { ForSome (F.told folder.new).files (Agrees files.now) }
     ensures later { F.faults folder.old ≤ F.faults folder.new }

@@ -1,11 +1,11 @@
 // Where the streams of a record lie.
 ghost use Rattle.std.specs.Prelude.{◌≡◌, ◌==◌, ◌<◌, IfOk, IsOk, OnOk, Some, true, length, unwrap_or};
-ghost use Rattle.spec_image.specs.Bytes.{content, word_at};
 ghost use Rattle.spec_format.specs.Address.{blocks_256, is_address, kind_of};
 ghost use Rattle.spec_format.specs.Records.{entry_size};
 ghost use Rattle.blk_addr.specs.Kind.{kind_number};
 ghost use Rattle.blk_io.specs.Faults.{IfDamaged, IfDevice};
 ghost use Rattle.blk_entry.specs.Keys as keys;
+ghost use Rattle.blk_stream.specs.StreamClauses.{address_in, size_in};
 ghost use Rattle.blk_stream.specs.Streams.{IsMisplacedStreamBy, IsStoredAt, address_place, may_keep, size_place, stored_by};
 
 use blk_addr::{Addr, Kind, blocks_for, kind_for};
@@ -20,6 +20,23 @@ use blk_record::{EntryView, Record};
 pub(crate) struct Stored {
     pub(crate) size: u32,
     pub(crate) addr: Option<Addr>,
+}
+
+// Bytes that are written over a stream of a record: from which offset on, and whether the stream ends with them.
+#[derive(Clone, Copy)]
+pub(crate) struct StreamWrite<'a> {
+    pub(crate) entry: Addr,
+    pub(crate) stream: u8,
+    pub(crate) offset: u32,
+    pub(crate) cut: bool,
+    pub(crate) bytes: &'a [u8],
+}
+
+// What a record says of a stream: its size, and the word of its address.
+#[derive(Clone, Copy)]
+pub(crate) struct StreamWords {
+    pub(crate) size: u32,
+    pub(crate) word: u32,
 }
 
 // The place of the size of a stream in a record.
@@ -48,10 +65,10 @@ pub(crate) fn stored_in(
     requires stream { stream < 3 }
     requires kind { kind_of entry ≡ blocks_256 }
     requires size { length bytes.now ≡ entry_size }
-    ensures stored { IfOk result (IsStoredAt (word_at (content bytes.now) (size_place stream)) (word_at (content bytes.now) (address_place stream))) }
-    ensures keeps { OnOk result (may_keep files.now (word_at (content bytes.now) (size_place stream)) (word_at (content bytes.now) (address_place stream)) ≡ true) }
-    ensures right { may_keep files.now (word_at (content bytes.now) (size_place stream)) (word_at (content bytes.now) (address_place stream)) ≡ true → IsOk result }
-    ensures damaged { IfDamaged result (IsMisplacedStreamBy files.now entry stream (word_at (content bytes.now) (size_place stream)) (word_at (content bytes.now) (address_place stream))) }
+    ensures stored { IfOk result (IsStoredAt (size_in bytes.now stream) (address_in bytes.now stream)) }
+    ensures keeps { OnOk result (may_keep files.now (size_in bytes.now stream) (address_in bytes.now stream) ≡ true) }
+    ensures right { may_keep files.now (size_in bytes.now stream) (address_in bytes.now stream) ≡ true → IsOk result }
+    ensures damaged { IfDamaged result (IsMisplacedStreamBy files.now entry stream (size_in bytes.now stream) (address_in bytes.now stream)) }
     ensures never { IfDevice result ⊥ }
 {
     let view = EntryView::new(bytes);

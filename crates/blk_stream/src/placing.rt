@@ -1,15 +1,16 @@
 // A new place for data.
-ghost use Rattle.std.specs.Prelude.{◌≡◌, ◌≢◌, ◌==◌, ◌<◌, true, IfOk, None, OnOk};
+ghost use Rattle.std.specs.Prelude.{◌≡◌, ◌≢◌, ◌==◌, ◌<◌, true, IfOk, OnOk};
 ghost use Rattle.std.specs.Option.{ForSome};
-ghost use Rattle.spec_image.specs.Told.{Passes, MayWrite};
+ghost use Rattle.spec_image.specs.Told.{MayWrite, StopsWhere};
 ghost use Rattle.spec_format.specs.Address.{external, file_selector, kind_of};
 ghost use Rattle.spec_format.specs.Headers.{HasWholeIndex};
 ghost use Rattle.blk_addr.specs.Kind.{kind_number};
-ghost use Rattle.blk_io.specs.Faults.{IfDamaged, IfDevice};
+ghost use Rattle.blk_io.specs.Faults.{IfDamaged, IfDevice, UndamagedWhere};
 ghost use Rattle.blk_disk.specs.Tables.{Agrees};
 ghost use Rattle.blk_entry.specs.Keys as keys;
 ghost use Rattle.blk_alloc.specs.Extending.{HasItsBlocks, KeepsStanding};
 ghost use Rattle.blk_stream.specs.Placing.{CanBePlaced, IsPlaceRefusal, IsNewPlace, KeepsOtherLinks, PlacesInProgress};
+ghost use Rattle.blk_stream.specs.StreamClauses.{OkLeaves};
 ghost use Rattle.blk_stream.specs.Stages.{TakesInProgress, TakesPlace};
 
 use blk_addr::{Addr, Kind, blocks_for, kind_for};
@@ -29,13 +30,13 @@ pub(crate) fn new_place<F: Folder>(
     ensures long { IfOk result (λ addr. kind_of addr ≢ external → HasItsBlocks files.new (file_selector addr)) }
     ensures keeps { KeepsStanding files.old files.new }
     ensures links { IfOk result (λ addr. KeepsOtherLinks files.old files.new addr) }
-    ensures placed { IfOk result (λ addr. ForSome (F.told folder.old).files (λ from. CanBePlaced files.old size from → ForSome (F.told folder.new).files (IsNewPlace files.old addr from))) }
-    ensures takes { IfOk result (λ addr. ForSome (F.told folder.old).files (λ from. CanBePlaced files.old size from → ForSome (F.told folder.new).files (TakesPlace files.old files.new addr from))) }
+    ensures placed { OkLeaves result (F.told folder.old) (F.told folder.new) (CanBePlaced files.old size) (IsNewPlace files.old) }
+    ensures takes { OkLeaves result (F.told folder.old) (F.told folder.new) (CanBePlaced files.old size) (TakesPlace files.old files.new) }
     ensures agrees { OnOk result (ForSome (F.told folder.new).files (Agrees files.new)) }
-    ensures stops { ForSome (F.told folder.old).files (λ from. CanBePlaced files.old size from → Passes (F.told folder.old) (F.told folder.new) (PlacesInProgress files.old size from)) }
-    ensures stages { ForSome (F.told folder.old).files (λ from. CanBePlaced files.old size from → Passes (F.told folder.old) (F.told folder.new) (TakesInProgress from)) }
+    ensures stops { StopsWhere (F.told folder.old) (F.told folder.new) (CanBePlaced files.old size) (PlacesInProgress files.old size) }
+    ensures stages { StopsWhere (F.told folder.old) (F.told folder.new) (CanBePlaced files.old size) TakesInProgress }
     ensures cause { IfDamaged result (IsPlaceRefusal files.old files.new size (F.told folder.old) (F.told folder.new)) }
-    ensures untold { ForSome (F.told folder.old).files (CanBePlaced files.old size) → IfDamaged result (λ _. (F.told folder.old).files ≡ None) }
+    ensures untold { UndamagedWhere result (F.told folder.old) (CanBePlaced files.old size) }
     ensures writes { MayWrite F.told F.faults folder.old folder.new (IfDevice result) }
 {
     let kind = kind_for(size);

@@ -1,13 +1,13 @@
 // The bytes of a stream are read.
-ghost use Rattle.std.specs.Prelude.{◌≡◌, ◌≤◌, ◌<◌, min, IfOk, IsTrue, None, OnOk, length};
+ghost use Rattle.std.specs.Prelude.{◌≡◌, ◌≤◌, ◌<◌, min, IfOk, IsTrue, OnOk, length};
 ghost use Rattle.std.specs.Option.{ForSome};
 ghost use Rattle.spec_image.specs.Told.{ReadsOnly};
 ghost use Rattle.spec_format.specs.Address.{blocks_256, kind_of};
-ghost use Rattle.spec_folder.specs.Entries.{stream as stream_in};
-ghost use Rattle.blk_io.specs.Faults.{IfDamaged, IfDevice};
+ghost use Rattle.blk_io.specs.Faults.{IfDamaged, IfDevice, OkFor, UndamagedWhere};
 ghost use Rattle.blk_disk.specs.Tables.{stands_among};
 ghost use Rattle.blk_entry.specs.Keys.{HasData, HasRecord, IsPiece};
-ghost use Rattle.blk_stream.specs.Streams.{HasStreamPlace, IsReadDamage, StreamsCanBeRead, address_word, size_word, stream_bytes, streams_at};
+ghost use Rattle.blk_stream.specs.StreamClauses.{IsPieceOfStream};
+ghost use Rattle.blk_stream.specs.Streams.{HasStreamPlace, IsReadDamage, StreamsCanBeRead, address_word, size_word, stream_bytes};
 
 use crate::places::place_of;
 use blk_addr::Addr;
@@ -34,18 +34,18 @@ pub fn read<F: Folder>(
     ensures within { IfOk result (λ n. n ≤ length out.old) }
 
     // A piece of the bytes where the record's words say that the stream lies, and so one of the stream.
-    ensures bytes { IfOk result (λ n. ForSome (F.told f.old).files (λ image. IsPiece (stream_bytes image entry stream) offset out.old out.new n)) }
-    ensures piece { IfOk result (λ n. ForSome (F.told f.old).files (λ image. ForSome (streams_at image entry) (λ streams. IsPiece (stream_in stream streams) offset out.old out.new n))) }
+    ensures bytes { OkFor result (F.told f.old) (λ n image. IsPiece (stream_bytes image entry stream) offset out.old out.new n) }
+    ensures piece { OkFor result (F.told f.old) (IsPieceOfStream entry stream offset out.old out.new) }
 
     // The record's checksum matches or is absent, its words give the stream its storage, and the piece is in the file.
     ensures checked { OnOk result (ForSome (F.told f.old).files (HasRecord entry)) }
     ensures placed { OnOk result (ForSome (F.told f.old).files (HasStreamPlace files.now entry stream)) }
-    ensures there { IfOk result (λ n. ForSome (F.told f.old).files (λ image. HasData (address_word image entry stream) (min offset (size_word image entry stream)) n image)) }
+    ensures there { OkFor result (F.told f.old) (λ n image. HasData (address_word image entry stream) (min offset (size_word image entry stream)) n image) }
     ensures reads { ReadsOnly F.told F.faults f.old f.new (IfDevice result) }
 
     // An observable folder reports corruption only where the record has a wrong checksum or no three streams.
     ensures damaged { IfDamaged result (IsReadDamage files.now (F.told f.old) entry stream offset (length out.old)) }
-    ensures untold { ForSome (F.told f.old).files (StreamsCanBeRead files.now entry) → IfDamaged result (λ _. (F.told f.old).files ≡ None) }
+    ensures untold { UndamagedWhere result (F.told f.old) (StreamsCanBeRead files.now entry) }
 {
     let head = read_head(f, files, entry)?;
     let size = head.sizes[usize::from(stream)];

@@ -1,16 +1,15 @@
 // A new place gets the bytes of a new stream.
-ghost use Rattle.std.specs.Prelude.{◌≡◌, ◌+◌, ◌≤◌, [], true, IfOk, None, OnOk, Some, length};
+ghost use Rattle.std.specs.Prelude.{◌≡◌, ◌+◌, ◌≤◌, true, IfOk, OnOk, length};
 ghost use Rattle.std.specs.Option.{ForSome};
-ghost use Rattle.spec_image.specs.Told.{Passes, MayWrite};
-ghost use Rattle.blk_model.specs.Bytes.{overwritten};
+ghost use Rattle.spec_image.specs.Told.{MayWrite, StopsWhere};
 ghost use Rattle.spec_format.specs.Headers.{HasWholeIndex};
 ghost use Rattle.spec_folder.specs.Entries.{most_stream_bytes};
-ghost use Rattle.spec_folder.specs.View.{store_of};
-ghost use Rattle.blk_io.specs.Faults.{IfDamaged, IfDevice};
+ghost use Rattle.blk_io.specs.Faults.{IfDamaged, IfDevice, UndamagedWhere};
 ghost use Rattle.blk_disk.specs.Tables.{Agrees};
 ghost use Rattle.blk_alloc.specs.Extending.{KeepsStanding};
-ghost use Rattle.blk_stream.specs.Placing.{CanBePlaced, IsPlaceRefusal};
-ghost use Rattle.blk_stream.specs.Stages.{FillsByStage, IsFilled};
+ghost use Rattle.blk_stream.specs.Placing.{IsPlaceRefusal};
+ghost use Rattle.blk_stream.specs.Stages.{FillsByStage};
+ghost use Rattle.blk_stream.specs.StreamClauses.{HasSpaceFor, IsFilledAt, OkLeaves, StoresNew};
 ghost use Rattle.blk_stream.specs.Streams.{may_keep};
 
 use crate::filling::fill;
@@ -37,16 +36,16 @@ pub fn store_new<F: Folder>(
     ensures fits { IfOk result (λ addr. may_keep files.new (offset + length bytes.now) addr ≡ true) }
 
     // Where there is space for them they are stored there.
-    ensures stored { IfOk result (λ addr. ForSome (F.told folder.old).files (λ from. CanBePlaced files.old (offset + length bytes.now) from → ForSome (F.told folder.new).files (λ image. (store_of image).stored (offset + length bytes.now) addr ≡ Some (overwritten [] offset bytes.now)))) }
+    ensures stored { OkLeaves result (F.told folder.old) (F.told folder.new) (HasSpaceFor files.old offset bytes.now) (StoresNew offset bytes.now) }
 
     // A place was allocated and then filled; at each word it is being allocated or filled.
-    ensures staged { IfOk result (λ addr. ForSome (F.told folder.old).files (λ from. CanBePlaced files.old (offset + length bytes.now) from → ForSome (F.told folder.new).files (IsFilled files.old files.new (Some addr) from))) }
-    ensures stages { ForSome (F.told folder.old).files (λ from. CanBePlaced files.old (offset + length bytes.now) from → Passes (F.told folder.old) (F.told folder.new) (FillsByStage files.old files.new from)) }
+    ensures staged { OkLeaves result (F.told folder.old) (F.told folder.new) (HasSpaceFor files.old offset bytes.now) (IsFilledAt files.old files.new) }
+    ensures stages { StopsWhere (F.told folder.old) (F.told folder.new) (HasSpaceFor files.old offset bytes.now) (FillsByStage files.old files.new) }
 
     ensures keeps { KeepsStanding files.old files.new }
     ensures agrees { OnOk result (ForSome (F.told folder.new).files (Agrees files.new)) }
     ensures damaged { IfDamaged result (IsPlaceRefusal files.old files.new (offset + length bytes.now) (F.told folder.old) (F.told folder.new)) }
-    ensures untold { ForSome (F.told folder.old).files (CanBePlaced files.old (offset + length bytes.now)) → IfDamaged result (λ _. (F.told folder.old).files ≡ None) }
+    ensures untold { UndamagedWhere result (F.told folder.old) (HasSpaceFor files.old offset bytes.now) }
     ensures writes { MayWrite F.told F.faults folder.old folder.new (IfDevice result) }
 {
     let none = Stored {

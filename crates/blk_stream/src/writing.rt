@@ -1,25 +1,24 @@
 // The bytes of a stream are written.
 ghost use Rattle.std.specs.Prelude.{ℕ, ◌≡◌, ◌≢◌, ◌+◌, ◌<◌, ◌≤◌, true, IsTrue, None, Some, OnOk, length, unwrap_or};
 ghost use Rattle.std.specs.Option.{ForSome};
-ghost use Rattle.spec_image.specs.Told.{Passes, MayWrite};
+ghost use Rattle.spec_image.specs.Told.{MayWrite};
 ghost use Rattle.spec_format.specs.Address.{blocks_256, kind_of};
 ghost use Rattle.spec_format.specs.Headers.{HasWholeIndex};
 ghost use Rattle.spec_format.specs.Records.{entry_size};
 ghost use Rattle.spec_format.specs.Sealed.{RecordChecks};
 ghost use Rattle.spec_folder.specs.Entries.{most_stream_bytes};
-ghost use Rattle.blk_io.specs.Faults.{IfDamaged, IfDevice};
+ghost use Rattle.blk_io.specs.Faults.{IfDamaged, IfDevice, UndamagedWhere};
 ghost use Rattle.blk_disk.specs.Tables.{Agrees, stands_among};
 ghost use Rattle.blk_entry.specs.Keys.{IsInFile};
 ghost use Rattle.blk_alloc.specs.Extending.{KeepsStanding};
 ghost use Rattle.blk_stream.specs.Streams.{HasStreamPlace, address_word, may_keep, size_word};
-ghost use Rattle.blk_stream.specs.Changing.{IsStreamRead};
-ghost use Rattle.blk_stream.specs.Stages.{IsWrittenByStage, KeepsSeal, WritesByStage};
 ghost use Rattle.blk_stream.specs.Writing as writes;
-ghost use Rattle.blk_stream.specs.Written.{CanBeWritten, IsWriteDamage, StreamIsWritten, WritesStream};
+ghost use Rattle.blk_stream.specs.WriteClauses.{CanBeOverwritten, EndsByStage, EndsSealed, EndsWritten, IsReadAndWritable, ByStages, StopsStreamWrite, IfStored, IfWritten, over, size_over};
+ghost use Rattle.blk_stream.specs.Written.{IsWriteDamage};
 
 use crate::inside::write_inside;
 use crate::moving::write_moved;
-use crate::places::{Stored, stored_in};
+use crate::places::{Stored, StreamWrite, stored_in};
 use blk_addr::{Addr, blocks_for, kind_for};
 use blk_disk::BlockFiles;
 use blk_io::{Fault, Folder};
@@ -57,105 +56,91 @@ pub fn write<F: Folder>(
 
     // The stream has the bytes after the write, in the storage of their number; maps and files have its new place and not the old one, and all else is as
     // before.
-    ensures written { OnOk result (ForSome (F.told f.old).files (λ from. CanBeWritten files.old entry stream (writes.size_after cut (size_word from entry stream) offset (length bytes.now)) from → ForSome (F.told f.new).files (StreamIsWritten files.old files.new entry stream offset cut bytes.now from))) }
+    ensures written { OnOk result (IfWritten (F.told f.old) files.old (over entry stream offset cut bytes.now) (EndsWritten (F.told f.new) files.new)) }
 
     // The stream was written where it lies; or a new place was allocated and filled, then the record named it, and then the old one was freed.
-    ensures staged { OnOk result (ForSome (F.told f.old).files (λ from. CanBeWritten files.old entry stream (writes.size_after cut (size_word from entry stream) offset (length bytes.now)) from → ForSome (F.told f.new).files (IsWrittenByStage files.old files.new entry stream (writes.size_after cut (size_word from entry stream) offset (length bytes.now)) offset bytes.now from))) }
+    ensures staged { OnOk result (IfWritten (F.told f.old) files.old (over entry stream offset cut bytes.now) (EndsByStage (F.told f.new) files.new)) }
 
-    ensures sealed { OnOk result (ForSome (F.told f.old).files (λ from. CanBeWritten files.old entry stream (writes.size_after cut (size_word from entry stream) offset (length bytes.now)) from → ForSome (F.told f.new).files (KeepsSeal entry from))) }
+    ensures sealed { OnOk result (IfWritten (F.told f.old) files.old (over entry stream offset cut bytes.now) (EndsSealed (F.told f.new))) }
     ensures keeps { KeepsStanding files.old files.new }
     ensures agrees { OnOk result (ForSome (F.told f.new).files (Agrees files.new)) }
 
     // At each word the record's checksum matches or is absent, and nothing but its words of the stream and the two places has changed; the old place is as it
     // was until the record names the new one, which then has the bytes.
-    ensures stops { ForSome (F.told f.old).files (λ from. CanBeWritten files.old entry stream (writes.size_after cut (size_word from entry stream) offset (length bytes.now)) from → Passes (F.told f.old) (F.told f.new) (WritesStream files.old entry stream (writes.size_after cut (size_word from entry stream) offset (length bytes.now)) offset cut bytes.now from)) }
+    ensures stops { IfWritten (F.told f.old) files.old (over entry stream offset cut bytes.now) (StopsStreamWrite (F.told f.old) (F.told f.new)) }
 
     // At each word one of these stages is under way: what was done before it is done, and of what comes after it nothing is.
-    ensures stages { ForSome (F.told f.old).files (λ from. CanBeWritten files.old entry stream (writes.size_after cut (size_word from entry stream) offset (length bytes.now)) from → Passes (F.told f.old) (F.told f.new) (WritesByStage files.old files.new entry stream (writes.size_after cut (size_word from entry stream) offset (length bytes.now)) offset bytes.now from)) }
+    ensures stages { IfWritten (F.told f.old) files.old (over entry stream offset cut bytes.now) (ByStages (F.told f.old) (F.told f.new) files.new) }
 
     ensures damaged { IfDamaged result (IsWriteDamage files.old files.new (F.told f.old) (F.told f.new) entry stream) }
-    ensures untold { ForSome (F.told f.old).files (λ from. CanBeWritten files.old entry stream (writes.size_after cut (size_word from entry stream) offset (length bytes.now)) from) → IfDamaged result (λ _. (F.told f.old).files ≡ None) }
+    ensures untold { UndamagedWhere result (F.told f.old) (CanBeOverwritten files.old (over entry stream offset cut bytes.now)) }
     ensures writes { MayWrite F.told F.faults f.old f.new (IfDevice result) }
 {
     let mut record_bytes = [0u8; EntryView::SIZE];
     files.read_record(f, entry, &mut record_bytes)?;
     let old = stored_in(files, entry, stream, &record_bytes)?;
-    write_stored(
-        f,
-        files,
+    let write = StreamWrite {
         entry,
         stream,
-        &mut record_bytes,
-        old,
-        offset as u32,
+        offset: offset as u32,
         cut,
         bytes,
-    )
+    };
+    write_stored(f, files, write, &mut record_bytes, old)
 }
 
 // Writes bytes over a stream, by the bytes of its record and where it lies, which were read.
 fn write_stored<F: Folder>(
     folder: &mut F,
     files: &mut BlockFiles,
-    entry: Addr,
-    stream: u8,
+    write: StreamWrite,
     record_bytes: &mut [u8],
     old: Stored,
-    offset: u32,
-    cut: bool,
-    bytes: &[u8],
 ) -> Result<(), Fault>
-    requires stream { stream < 3 }
-    requires kind { kind_of entry ≡ blocks_256 }
-    requires stands { IsTrue (stands_among files.old entry) }
+    requires stream { write.stream < 3 }
+    requires kind { kind_of write.entry ≡ blocks_256 }
+    requires stands { IsTrue (stands_among files.old write.entry) }
     requires long { length record_bytes.old ≡ entry_size }
     requires place { may_keep files.old old.size (unwrap_or old.addr 0) ≡ true }
     requires none { old.addr ≡ None → old.size ≡ 0 }
     requires some { (addr : ℕ) → old.addr ≡ Some addr → addr ≢ 0 }
-    requires most { offset + length bytes.now ≤ most_stream_bytes }
+    requires most { write.offset + length write.bytes.now ≤ most_stream_bytes }
     requires agrees { ForSome (F.told folder.old).files (Agrees files.old) }
     requires complete { ForSome (F.told folder.old).files HasWholeIndex }
     requires there { ForSome (F.told folder.old).files (IsInFile (unwrap_or old.addr 0) 0 old.size) }
-    ensures written { OnOk result (ForSome (F.told folder.old).files (λ from. IsStreamRead record_bytes.old entry stream old.size (unwrap_or old.addr 0) from → CanBeWritten files.old entry stream (writes.size_after cut old.size offset (length bytes.now)) from → ForSome (F.told folder.new).files (StreamIsWritten files.old files.new entry stream offset cut bytes.now from))) }
-    ensures staged { OnOk result (ForSome (F.told folder.old).files (λ from. IsStreamRead record_bytes.old entry stream old.size (unwrap_or old.addr 0) from → CanBeWritten files.old entry stream (writes.size_after cut old.size offset (length bytes.now)) from → ForSome (F.told folder.new).files (IsWrittenByStage files.old files.new entry stream (writes.size_after cut old.size offset (length bytes.now)) offset bytes.now from))) }
-    ensures sealed { OnOk result (ForSome (F.told folder.old).files (λ from. IsStreamRead record_bytes.old entry stream old.size (unwrap_or old.addr 0) from → CanBeWritten files.old entry stream (writes.size_after cut old.size offset (length bytes.now)) from → ForSome (F.told folder.new).files (KeepsSeal entry from))) }
+    ensures written { OnOk result (IfStored (F.told folder.old) files.old record_bytes.old write.entry old (EndsWritten (F.told folder.new) files.new)) }
+    ensures staged { OnOk result (IfStored (F.told folder.old) files.old record_bytes.old write.entry old (EndsByStage (F.told folder.new) files.new)) }
+    ensures sealed { OnOk result (IfStored (F.told folder.old) files.old record_bytes.old write.entry old (EndsSealed (F.told folder.new))) }
     ensures keeps { KeepsStanding files.old files.new }
     ensures agrees { OnOk result (ForSome (F.told folder.new).files (Agrees files.new)) }
-    ensures stops { ForSome (F.told folder.old).files (λ from. IsStreamRead record_bytes.old entry stream old.size (unwrap_or old.addr 0) from → CanBeWritten files.old entry stream (writes.size_after cut old.size offset (length bytes.now)) from → Passes (F.told folder.old) (F.told folder.new) (WritesStream files.old entry stream (writes.size_after cut old.size offset (length bytes.now)) offset cut bytes.now from)) }
-    ensures stages { ForSome (F.told folder.old).files (λ from. IsStreamRead record_bytes.old entry stream old.size (unwrap_or old.addr 0) from → CanBeWritten files.old entry stream (writes.size_after cut old.size offset (length bytes.now)) from → Passes (F.told folder.old) (F.told folder.new) (WritesByStage files.old files.new entry stream (writes.size_after cut old.size offset (length bytes.now)) offset bytes.now from)) }
-    ensures damaged { IfDamaged result (IsWriteDamage files.old files.new (F.told folder.old) (F.told folder.new) entry stream) }
-    ensures untold { ForSome (F.told folder.old).files (λ from. IsStreamRead record_bytes.old entry stream old.size (unwrap_or old.addr 0) from × CanBeWritten files.old entry stream (writes.size_after cut old.size offset (length bytes.now)) from) → IfDamaged result (λ _. (F.told folder.old).files ≡ None) }
+    ensures stops { IfStored (F.told folder.old) files.old record_bytes.old write.entry old (StopsStreamWrite (F.told folder.old) (F.told folder.new)) }
+    ensures stages { IfStored (F.told folder.old) files.old record_bytes.old write.entry old (ByStages (F.told folder.old) (F.told folder.new) files.new) }
+    ensures damaged { IfDamaged result (IsWriteDamage files.old files.new (F.told folder.old) (F.told folder.new) write.entry.entry write.entry.stream) }
+    ensures untold { UndamagedWhere result (F.told folder.old) (IsReadAndWritable files.old record_bytes.old write.entry old (size_over write.entry old)) }
     ensures writes { MayWrite F.told F.faults folder.old folder.new (IfDevice result) }
 {
     let place = old.addr;
+    let StreamWrite {
+        entry,
+        stream,
+        offset,
+        cut,
+        bytes,
+    } = write;
     let size = size_after(cut, old.size, offset, bytes.len() as u32);
+    let write = StreamWrite {
+        entry,
+        stream,
+        offset,
+        cut,
+        bytes,
+    };
     if !have_one_storage(old.size, size) {
-        return write_moved(
-            folder,
-            files,
-            entry,
-            stream,
-            record_bytes,
-            old,
-            size,
-            offset,
-            bytes,
-        );
+        return write_moved(folder, files, write, record_bytes, old, size);
     }
     match place {
         Some(addr) => {
-            write_inside(
-                folder,
-                files,
-                entry,
-                stream,
-                record_bytes,
-                addr,
-                old.size,
-                size,
-                offset,
-                bytes,
-            )?;
+            write_inside(folder, files, write, record_bytes, addr, old.size, size)?;
             Ok(())
         }
         None => Ok(()),

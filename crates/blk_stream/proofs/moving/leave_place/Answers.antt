@@ -16,14 +16,14 @@ use Rattle.blk_stream.proofs.moving.leave_place.Goals as goal
 
 pub returns-in_err-name_place-clause-stops : goal.returns-in_err-name_place-clause-stops
 returns-in_err-name_place-clause-stops g c from there read good =
-    passes_weaker (c.in_err-name_place.ensures.stops from there read good) (naming_changes c.args.entry c.args.stream c.args.old c.args.size c.args.word from) (naming_changes c.args.entry c.args.stream c.args.old c.args.size c.args.word from)
+    passes_weaker (c.in_err-name_place.ensures.stops from there read good) (naming_changes c.args.entry c.args.stream c.args.old c.args.to.size c.args.to.word from) (naming_changes c.args.entry c.args.stream c.args.old c.args.to.size c.args.to.word from)
 
 pub returns-clause-changed : goal.returns-clause-changed
 returns-clause-changed g c =
     on_ok_weaker c.free_place.result
     (λ freed from there read good image now.
     let mid = told_then (g.F.Folder.told c.args.folder.now) (g.F.Folder.told c.name_place.new.folder) from (NamesInProgress c.args.entry c.args.stream from) there (c.in_ok-name_place.ensures.stops from there read good) in
-    freed_changes c.args.entry c.args.stream c.args.old c.args.size c.args.word from mid.image c.requires.stream mid.holds (c.in_ok-name_place.ensures.named from there read mid.image mid.is) image (freed mid.image mid.is image now))
+    freed_changes c.args.entry c.args.stream c.args.old c.args.to.size c.args.to.word from mid.image c.requires.stream mid.holds (c.in_ok-name_place.ensures.named from there read mid.image mid.is) image (freed mid.image mid.is image now))
     c.free_place.ensures.freed
 
 pub returns-clause-read : goal.returns-clause-read
@@ -39,10 +39,10 @@ returns-clause-stops g c from there read good =
     let mid = told_then (g.F.Folder.told c.args.folder.now) (g.F.Folder.told c.name_place.new.folder) from (NamesInProgress c.args.entry c.args.stream from) there (c.in_ok-name_place.ensures.stops from there read good) in
     let named = c.in_ok-name_place.ensures.named from there read mid.image mid.is in
     passes_then
-    (passes_weaker (c.in_ok-name_place.ensures.stops from there read good) (naming_changes c.args.entry c.args.stream c.args.old c.args.size c.args.word from) (naming_changes c.args.entry c.args.stream c.args.old c.args.size c.args.word from))
+    (passes_weaker (c.in_ok-name_place.ensures.stops from there read good) (naming_changes c.args.entry c.args.stream c.args.old c.args.to.size c.args.to.word from) (naming_changes c.args.entry c.args.stream c.args.old c.args.to.size c.args.to.word from))
     (passes_weaker (c.free_place.ensures.stops mid.image mid.is)
-    (freeing_changes c.args.entry c.args.stream c.args.old c.args.size c.args.word from mid.image c.requires.stream mid.holds named)
-    (freeing_changes c.args.entry c.args.stream c.args.old c.args.size c.args.word from mid.image c.requires.stream mid.holds named))
+    (freeing_changes c.args.entry c.args.stream c.args.old c.args.to.size c.args.to.word from mid.image c.requires.stream mid.holds named)
+    (freeing_changes c.args.entry c.args.stream c.args.old c.args.to.size c.args.to.word from mid.image c.requires.stream mid.holds named))
 
 pub returns-clause-cause : goal.returns-clause-cause
 returns-clause-cause g c =
@@ -67,7 +67,7 @@ returns-in_err-name_place-clause-stages g c from there read good some = passes_w
 pub returns-clause-stages : goal.returns-clause-stages
 returns-clause-stages g c from there read good some =
     let mid = told_then (g.F.Folder.told c.args.folder.now) (g.F.Folder.told c.name_place.new.folder) from (NamesInProgress c.args.entry c.args.stream from) there (c.in_ok-name_place.ensures.stops from there read good) in
-    let names : NamesPlace c.args.entry c.args.stream c.args.size c.args.word from mid.image = record { names = mid.holds; words = c.in_ok-name_place.ensures.named from there read mid.image mid.is; sealed = c.in_ok-name_place.ensures.sealed from there read mid.image mid.is } in
+    let names : NamesPlace c.args.entry c.args.stream c.args.to.size c.args.to.word from mid.image = record { names = mid.holds; words = c.in_ok-name_place.ensures.named from there read mid.image mid.is; sealed = c.in_ok-name_place.ensures.sealed from there read mid.image mid.is } in
     passes_then (passes_weaker (c.in_ok-name_place.ensures.stages from there read good) (λ image h. inl h) (λ image h. inl h))
     (passes_weaker (c.free_place.ensures.stages mid.image mid.is) (λ image h. inr (record { some = some; named = mid.image; names = names; frees = h })) (λ image h. inr (record { some = some; named = mid.image; names = names; frees = h })))
 
