@@ -8,7 +8,7 @@ use Rattle.blk_scan.specs.Scans.{dropped_by_told}
 use Rattle.blk_scan.specs.declared.scan.Dropped.{Dropped}
 use Rattle.blk_scan.specs.declared.scan.Scan.{Scan}
 use Rattle.spec_run.specs.Script.{totals_line}
-use Rattle.blk_inspect.specs.Texts.{dropped_line, end_line, kept_line, node_line, none_line, part_text, place_line, record_line, text_or_unfinished, unfinished_line, verdict_text, word_line}
+use Rattle.blk_inspect.specs.Texts.{dropped_line, end_line, kept_line, node_line, none_line, part_text, place_line, record_line, text_or_unfinished, unfinished_line, verdict_text, named_word_line}
 use Rattle.blk_inspect.specs.declared.findings.Findings.{Findings}
 use Rattle.blk_inspect.specs.declared.findings.Findings.TheVariants as findings
 use Rattle.blk_inspect.specs.declared.reading.Question.{Question}
@@ -23,7 +23,7 @@ word_said word = (word.name.now, word.word)
 
 -- the printed line of a word with its name
 abbrev pub word_row_line : NamedWord → List ℕ
-word_row_line word = word_line word.name.now word.word
+word_row_line word = named_word_line word.name.now word.word
 
 -- the printed line of a node
 abbrev pub node_row_line : NodeRow → List ℕ

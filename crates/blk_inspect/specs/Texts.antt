@@ -15,7 +15,7 @@ use Rattle.spec_folder.specs.Reasons.{Reason}
 use Rattle.spec_folder.specs.View.{entry_at, node_at, stands_as, store_of}
 use Rattle.blk_io.specs.Texts.{hex_text}
 use Rattle.blk_script.specs.Reply.{answer_line}
-use Rattle.blk_script.specs.Spelling.{line, number_text}
+use Rattle.blk_script.specs.Spelling.{data_text, line, number_text}
 use Rattle.spec_run.specs.Script.{totals_line}
 use Rattle.blk_inspect.specs.declared.inspecting.Part.{Part}
 use Rattle.blk_inspect.specs.declared.inspecting.Part.TheVariants as part
@@ -39,12 +39,12 @@ end_line n = answer_line (answer.Listed n)
 -- Words with their names.
 
 -- the line of a name and a word
-abbrev pub word_line : List ℕ → ℕ → List ℕ
-word_line name w = line (name ∷ word_text w ∷ [])
+abbrev pub named_word_line : List ℕ → ℕ → List ℕ
+named_word_line name w = line (name ∷ word_text w ∷ [])
 
 -- a line for each word
 abbrev pub words_text : List (List ℕ × ℕ) → List ℕ
-words_text words = flat_map (λ word. word_line word.0 word.1) words
+words_text words = flat_map (λ word. named_word_line word.0 word.1) words
 
 -- the words of the index header, with their names
 unfoldable pub index_words : (ℕ → ℕ) → List (List ℕ × ℕ)
@@ -186,6 +186,10 @@ kept_line n = line (codes "kept" ∷ number_text n ∷ [])
 -- the line of a node or a record that is dropped, with the reason
 abbrev pub dropped_line : ℕ × Reason → List ℕ
 dropped_line one = line (codes "dropped" ∷ word_text one.0 ∷ number_text (number_of_reason one.1) ∷ name_of_reason one.1 ∷ [])
+
+-- the line of a node or a record that is dropped, by the bytes of its address, and by the number and the name of the reason
+abbrev pub reason_line : (place : List ℕ) → (number : ℕ) → (name : List ℕ) → List ℕ
+reason_line place number name = line (codes "dropped" ∷ data_text place ∷ number_text number ∷ name ∷ [])
 
 -- The parts of a folder with an initialized index.
 

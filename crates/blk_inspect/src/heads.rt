@@ -5,6 +5,7 @@ ghost use Rattle.spec_image.specs.Bytes.{content};
 ghost use Rattle.spec_image.specs.Told.{ReadsOnly};
 ghost use Rattle.spec_format.specs.Headers.{HasWholeIndex};
 ghost use Rattle.spec_format.specs.Records.{entry_in};
+ghost use Rattle.blk_io.specs.Faults.{OkFor};
 ghost use Rattle.blk_record.specs.Views.{entry_window};
 ghost use Rattle.blk_disk.specs.Tables.{Agrees};
 ghost use Rattle.blk_audit.specs.Faults.{IfScanDamaged, IfScanDevice, IsRecordDamage};
@@ -30,7 +31,7 @@ const STATE: usize = EntryView::STATE as usize;
 
 /// Reads the words of the index, by one folder call.
 pub(crate) fn read_index<F: Folder>(alloc: Global, folder: &mut F) -> Result<Findings, ScanFault>
-    ensures found { IfOk result (λ findings. ForSome (F.told folder.old).files (λ image. findings_text findings ≡ index_text image)) }
+    ensures found { OkFor result (F.told folder.old) (λ findings image. findings_text findings ≡ index_text image) }
     ensures reads { ReadsOnly F.told F.faults folder.old folder.new (IfScanDevice result) }
     ensures damaged { IfScanDamaged result (IsFileHeadDamage (F.told folder.new)) }
     ensures untold { ForSome (F.told folder.old).files HasWholeIndex → IfScanDamaged result (λ _. (F.told folder.old).files ≡ None) }
@@ -82,7 +83,7 @@ pub(crate) fn read_file<F: Folder>(
     files: &BlockFiles,
     file: u8,
 ) -> Result<Findings, ScanFault>
-    ensures found { IfOk result (λ findings. ForSome (F.told folder.old).files (λ image. Agrees files.now image → findings_text findings ≡ file_text file image)) }
+    ensures found { OkFor result (F.told folder.old) (λ findings image. Agrees files.now image → findings_text findings ≡ file_text file image) }
     ensures reads { ReadsOnly F.told F.faults folder.old folder.new (IfScanDevice result) }
     ensures damaged { IfScanDamaged result (IsFileHeadDamage (F.told folder.new)) }
     ensures untold { ForSome (F.told folder.old).files (Agrees files.now) → IfScanDamaged result (λ _. (F.told folder.old).files ≡ None) }
@@ -131,7 +132,7 @@ pub(crate) fn read_record<F: Folder>(
     files: &BlockFiles,
     word: u32,
 ) -> Result<Findings, ScanFault>
-    ensures found { IfOk result (λ findings. ForSome (F.told folder.old).files (λ image. Agrees files.now image → findings_text findings ≡ record_text word image)) }
+    ensures found { OkFor result (F.told folder.old) (λ findings image. Agrees files.now image → findings_text findings ≡ record_text word image) }
     ensures reads { ReadsOnly F.told F.faults folder.old folder.new (IfScanDevice result) }
     ensures damaged { IfScanDamaged result (IsRecordDamage files.now (F.told folder.new)) }
     ensures untold { ForSome (F.told folder.old).files (Agrees files.now) → IfScanDamaged result (λ _. (F.told folder.old).files ≡ None) }

@@ -4,6 +4,7 @@ ghost use Rattle.std.specs.List.{cons_option};
 ghost use Rattle.std.specs.Option.{ForSome, option_map};
 ghost use Rattle.spec_image.specs.Image.{Image};
 ghost use Rattle.spec_image.specs.Told.{ReadsOnly};
+ghost use Rattle.blk_io.specs.Faults.{OkFor};
 ghost use Rattle.blk_disk.specs.Open.{IsOpen};
 ghost use Rattle.blk_disk.specs.Tables.{Agrees};
 ghost use Rattle.blk_audit.specs.BucketEnds as shown;
@@ -28,7 +29,7 @@ pub(crate) fn read_list<F: Folder>(
     folder: &mut F,
     files: &BlockFiles,
 ) -> Result<Findings, ScanFault>
-    ensures found { IfOk result (λ findings. ForSome (F.told folder.old).files (λ image. Agrees files.now image → findings_text findings ≡ list_text image)) }
+    ensures found { OkFor result (F.told folder.old) (λ findings image. Agrees files.now image → findings_text findings ≡ list_text image) }
     ensures reads { ReadsOnly F.told F.faults folder.old folder.new (IfScanDevice result) }
     ensures damaged { IfScanDamaged result (IsListsDamage files.now (F.told folder.new)) }
     ensures untold { ForSome (F.told folder.old).files (IsOpen files.now) → IfScanDamaged result (λ _. (F.told folder.old).files ≡ None) }
@@ -70,7 +71,7 @@ pub(crate) fn read_chain<F: Folder>(
     files: &BlockFiles,
     bucket: u16,
 ) -> Result<Findings, ScanFault>
-    ensures found { IfOk result (λ findings. ForSome (F.told folder.old).files (λ image. Agrees files.now image → findings_text findings ≡ chain_text bucket image)) }
+    ensures found { OkFor result (F.told folder.old) (λ findings image. Agrees files.now image → findings_text findings ≡ chain_text bucket image) }
     ensures reads { ReadsOnly F.told F.faults folder.old folder.new (IfScanDevice result) }
     ensures damaged { IfScanDamaged result (IsListsDamage files.now (F.told folder.new)) }
     ensures untold { ForSome (F.told folder.old).files (IsOpen files.now) → IfScanDamaged result (λ _. (F.told folder.old).files ≡ None) }
@@ -119,7 +120,7 @@ fn record_rows<F: Folder>(
     entries: &[Addr],
 ) -> Result<Vec<RecordRow>, ScanFault>
     requires stand { RecordsStand files.now entries.now }
-    ensures rows { IfOk result (λ rows. ForSome (F.told folder.old).files (λ image. AreListsOf image lists.now → rows.items ≡ map (record_row_at image) entries.now)) }
+    ensures rows { OkFor result (F.told folder.old) (λ rows image. AreListsOf image lists.now → rows.items ≡ map (record_row_at image) entries.now) }
     ensures reads { ReadsOnly F.told F.faults folder.old folder.new (IfScanDevice result) }
     ensures damaged { IfScanDamaged result (IsRecordDamage files.now (F.told folder.new)) }
     ensures untold { ForSome (F.told folder.old).files (Agrees files.now) → IfScanDamaged result (λ _. (F.told folder.old).files ≡ None) }

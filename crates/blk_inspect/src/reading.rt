@@ -4,11 +4,11 @@ ghost use Rattle.std.specs.Option.{ForSome};
 ghost use Rattle.spec_image.specs.Told.{ReadsOnly};
 ghost use Rattle.spec_format.specs.BlockFiles.{IsDamagedBy, IsUsable, first_block_damage};
 ghost use Rattle.spec_format.specs.Headers.{HasWholeIndex};
-ghost use Rattle.blk_io.specs.Faults.{damage_of};
+ghost use Rattle.blk_io.specs.Faults.{damage_of, OkFor};
 ghost use Rattle.blk_disk.specs.Open.{IsOpen};
 ghost use Rattle.blk_audit.specs.Faults.{IfScanDamaged, IfScanDevice};
 ghost use Rattle.blk_inspect.specs.Findings.{findings_text, finished_text, question_text};
-ghost use Rattle.blk_inspect.specs.Inspecting.{IsFinishedDamage, IsInspectDamage, IsInspectReadDamage};
+ghost use Rattle.blk_inspect.specs.Inspecting.{IsFinishedDamage, IsInspectDamage, IsInspectReadDamage, IsFirstBlocksCheck};
 ghost use Rattle.blk_inspect.specs.Texts.{address_text, part_text, verdict_text};
 
 use crate::findings::Findings;
@@ -43,7 +43,7 @@ pub(crate) fn find<F: Folder>(
     folder: &mut F,
     question: &Question,
 ) -> Result<Findings, ScanFault>
-    ensures found { IfOk result (λ findings. ForSome (F.told folder.old).files (λ image. findings_text findings ≡ question_text question.now image)) }
+    ensures found { OkFor result (F.told folder.old) (λ findings image. findings_text findings ≡ question_text question.now image) }
     ensures checked { IfOk result (λ _. ForSome (F.told folder.old).files IsUsable) }
     ensures reads { ReadsOnly F.told F.faults folder.old folder.new (IfScanDevice result) }
 
@@ -65,10 +65,10 @@ fn find_finished<F: Folder>(
     folder: &mut F,
     question: &Question,
 ) -> Result<Findings, ScanFault>
-    ensures found { IfOk result (λ findings. ForSome (F.told folder.old).files (λ image. HasWholeIndex image → findings_text findings ≡ finished_text question.now image)) }
-    ensures checked { IfOk result (λ _. ForSome (F.told folder.old).files (λ image. first_block_damage image ≡ None)) }
+    ensures found { OkFor result (F.told folder.old) (λ findings image. HasWholeIndex image → findings_text findings ≡ finished_text question.now image) }
+    ensures checked { OkFor result (F.told folder.old) (λ _ image. first_block_damage image ≡ None) }
     ensures reads { ReadsOnly F.told F.faults folder.old folder.new (IfScanDevice result) }
-    ensures damaged { IfScanDamaged result (λ damage. ForSome (F.told folder.old).files (λ image. HasWholeIndex image → first_block_damage image ≡ Some (damage_of damage))) }
+    ensures damaged { IfScanDamaged result (λ damage. ForSome (F.told folder.old).files (IsFirstBlocksCheck damage)) }
     ensures cause { IfScanDamaged result (IsFinishedDamage (F.told folder.old)) }
 {
     let files = BlockFiles::load(folder)?;
@@ -82,7 +82,7 @@ fn read<F: Folder>(
     files: &BlockFiles,
     question: &Question,
 ) -> Result<Findings, ScanFault>
-    ensures found { IfOk result (λ findings. ForSome (F.told folder.old).files (λ image. IsOpen files.now image → findings_text findings ≡ finished_text question.now image)) }
+    ensures found { OkFor result (F.told folder.old) (λ findings image. IsOpen files.now image → findings_text findings ≡ finished_text question.now image) }
     ensures reads { ReadsOnly F.told F.faults folder.old folder.new (IfScanDevice result) }
     ensures damaged { IfScanDamaged result (IsInspectReadDamage files.now (F.told folder.new)) }
     ensures untold { ForSome (F.told folder.old).files (IsOpen files.now) → IfScanDamaged result (λ _. (F.told folder.old).files ≡ None) }
@@ -100,7 +100,7 @@ fn read_part<F: Folder>(
     files: &BlockFiles,
     part: &Part,
 ) -> Result<Findings, ScanFault>
-    ensures found { IfOk result (λ findings. ForSome (F.told folder.old).files (λ image. IsOpen files.now image → findings_text findings ≡ part_text part.now image)) }
+    ensures found { OkFor result (F.told folder.old) (λ findings image. IsOpen files.now image → findings_text findings ≡ part_text part.now image) }
     ensures reads { ReadsOnly F.told F.faults folder.old folder.new (IfScanDevice result) }
     ensures damaged { IfScanDamaged result (IsInspectReadDamage files.now (F.told folder.new)) }
     ensures untold { ForSome (F.told folder.old).files (IsOpen files.now) → IfScanDamaged result (λ _. (F.told folder.old).files ≡ None) }
@@ -132,7 +132,7 @@ fn read_verdict<F: Folder>(
     folder: &mut F,
     files: &BlockFiles,
 ) -> Result<Findings, ScanFault>
-    ensures found { IfOk result (λ findings. ForSome (F.told folder.old).files (λ image. IsOpen files.now image → findings_text findings ≡ verdict_text image)) }
+    ensures found { OkFor result (F.told folder.old) (λ findings image. IsOpen files.now image → findings_text findings ≡ verdict_text image) }
     ensures reads { ReadsOnly F.told F.faults folder.old folder.new (IfScanDevice result) }
     ensures damaged { IfScanDamaged result (IsInspectReadDamage files.now (F.told folder.new)) }
     ensures untold { ForSome (F.told folder.old).files (IsOpen files.now) → IfScanDamaged result (λ _. (F.told folder.old).files ≡ None) }

@@ -1,14 +1,13 @@
 // What a folder holds is printed.
-ghost use Rattle.std.specs.Prelude.{◌≡◌, ◌++◌, ◌∷◌, [], OnOk, OnErr, codes, length};
+ghost use Rattle.std.specs.Prelude.{◌≡◌, ◌++◌, OnOk, OnErr, length};
 ghost use Rattle.std.specs.List.{flat_map};
 ghost use Rattle.std.specs.Option.{option_map};
 ghost use Rattle.spec_image.specs.Told.{Rises};
 ghost use Rattle.blk_io.specs.Streams.{Appends, GoesOn};
 ghost use Rattle.spec_run.specs.Script.{totals_line};
-ghost use Rattle.blk_script.specs.Spelling.{data_text, line, number_text};
 ghost use Rattle.blk_verdict.specs.Reasons.{reason_of};
 ghost use Rattle.blk_inspect.specs.Findings.{dropped_line_told, scan_text};
-ghost use Rattle.blk_inspect.specs.Texts.{kept_line, name_of_reason};
+ghost use Rattle.blk_inspect.specs.Texts.{kept_line, name_of_reason, reason_line};
 
 use crate::rows::bytes_of;
 use blk_io::{Failed, Sink};
@@ -86,8 +85,8 @@ fn print_why<'a, K: Sink>(
     number: u32,
     name: &'a str,
 ) -> Result<(), Failed>
-    ensures steps { OnOk result (K.written out.new ≡ option_map (λ w. w ++ line (codes "dropped" ∷ data_text place.now ∷ number_text number ∷ name.now ∷ [])) (K.written out.old)) }
-    ensures prefix { Appends (K.written out.old) (K.written out.new) (line (codes "dropped" ∷ data_text place.now ∷ number_text number ∷ name.now ∷ [])) }
+    ensures steps { OnOk result (K.written out.new ≡ option_map (λ w. w ++ reason_line place.now number name.now) (K.written out.old)) }
+    ensures prefix { Appends (K.written out.old) (K.written out.new) (reason_line place.now number name.now) }
     ensures later { GoesOn K.is K.faults out.old out.new }
     ensures failed { OnErr result (Rises (K.faults out.old) (K.faults out.new)) }
 {

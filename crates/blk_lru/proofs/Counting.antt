@@ -16,7 +16,7 @@ use Rattle.blk_lru.specs.declared.plans.Operation.TheVariants as operations
 use Rattle.blk_lru.specs.Completing.{FindsInFlight, FindsNeighbours, FindsHead, IsInFlight}
 use Rattle.blk_lru.specs.declared.nodes.Links.{Links}
 use Rattle.blk_lru.specs.Nodes.{AreLinksOf, FindsNode}
-use Rattle.blk_lru.specs.Plans.{pending}
+use Rattle.blk_lru.specs.Plans.{writes_left}
 use Rattle.blk_lru.proofs.PlanNodes.{node_some}
 use Rattle.blk_lru.proofs.PlanWords.{pending_is}
 
@@ -104,6 +104,6 @@ module _ (files : BlockFiles) (list : ListView) (links : Links) (stands : is_nod
   move_found three head neighbours first found = (move_counts list some_transaction are.good three first.0 found.0, record { node = are.node; operation = sym three; goes_by = (found.1, first.1) })
 
 -- what the redo writes, by the operation that was found
-pub found_writes : (list : ListView) (found : InFlight) → counts list ≡ true → IsInFlight list found → pending found.node found.operation ≡ completion_writes list
+pub found_writes : (list : ListView) (found : InFlight) → counts list ≡ true → IsInFlight list found → writes_left found.node found.operation ≡ completion_writes list
 found_writes list found e is =
-    ap (λ (n : ℕ). pending n found.operation) is.node ∙ pending_is list found.operation is.operation is.goes_by ∙ sym (completion_true list e)
+    ap (λ (n : ℕ). writes_left n found.operation) is.node ∙ pending_is list found.operation is.operation is.goes_by ∙ sym (completion_true list e)

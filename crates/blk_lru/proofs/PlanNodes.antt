@@ -11,7 +11,7 @@ use Rattle.blk_disk.specs.Tables.{stands_among, is_node_among, names_among}
 use Rattle.blk_lru.specs.declared.plans.Neighbours.{Neighbours}
 use Rattle.blk_lru.specs.declared.plans.Operation as code
 use Rattle.blk_lru.specs.declared.plans.Operation.TheVariants as operations
-use Rattle.blk_lru.specs.Plans.{operation_code, head_without, leaving, planned, pending, whole_plan, word_or_zero, StandBeside, StandsBy}
+use Rattle.blk_lru.specs.Plans.{operation_code, head_without, leaving, planned, writes_left, whole_plan, word_or_zero, StandBeside, StandsBy}
 use Rattle.blk_lru.proofs.PlanWords.{leaving_is, some_word}
 
 -- a node's word is below 2 ^ 32
@@ -67,7 +67,7 @@ module _ (files : BlockFiles) (node : ℕ) (stands : is_node_among files node �
       Each-append (Good Stands) (leaving node neighbours) (Operation 1 ∷ putting_in_front node (word_or_zero (head_without node neighbours head))) (out neighbours both.0)
       (omega arith, prefix (head_without node neighbours head) (left neighbours head both.0 both.1))
 
-  pub pending_good : (operation : code.Operation) → StandsBy files operation → Each (Good Stands) (pending node operation)
+  pub pending_good : (operation : code.Operation) → StandsBy files operation → Each (Good Stands) (writes_left node operation)
   pending_good operation by = Each-append (Good Stands) (planned node operation) (Transaction 0 ∷ []) (planned_good operation by) (omega arith, tt)
 
   pub whole_good : (operation : code.Operation) → StandsBy files operation → Each (Good Stands) (whole_plan node operation)

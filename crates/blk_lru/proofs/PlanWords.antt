@@ -12,7 +12,7 @@ use Rattle.blk_lru.specs.declared.plans.Neighbours.{Neighbours}
 use Rattle.blk_lru.specs.declared.plans.Operation as code
 use Rattle.blk_lru.specs.declared.plans.Operation.TheVariants as operations
 use Rattle.blk_lru.specs.declared.writes.Write.{Write}
-use Rattle.blk_lru.specs.Plans.{operation_code, head_without, leaving, pending, whole_plan, word_or_zero, AreBeside, GoesBy}
+use Rattle.blk_lru.specs.Plans.{operation_code, head_without, leaving, writes_left, whole_plan, word_or_zero, AreBeside, GoesBy}
 use Rattle.blk_lru.specs.Writes.{meant}
 
 -- the word 0 is no address
@@ -83,7 +83,7 @@ head_left node next prev (Some neighbours) head (some, (n, p)) =
     by_tests false b = refl
 
 -- what is pending of the operation in flight of a list, by the nodes that it uses
-pub pending_is : (list : ListView) (operation : code.Operation) → operation_code operation ≡ list.operation → GoesBy list list.transaction operation → pending list.transaction operation ≡ pending_writes list
+pub pending_is : (list : ListView) (operation : code.Operation) → operation_code operation ≡ list.operation → GoesBy list list.transaction operation → writes_left list.transaction operation ≡ pending_writes list
 pending_is list (operations.Insert head) is by =
     ap (λ (h : ℕ). putting_in_front list.transaction h ++ Transaction 0 ∷ []) by ∙ sym (pending_insert list (sym is))
 pending_is list (operations.Remove neighbours) is by =

@@ -1,6 +1,7 @@
 -- The redo of the operation in flight: what is found of it, and what the redo writes.
 use Rattle.blk_disk.specs.Tables.{is_node_among}
 use Rattle.std.specs.Prelude.{ℕ, ◌≡◌, true, false, Option, None, Some, IfSome}
+use Rattle.spec_image.specs.Image.{Image}
 use Rattle.spec_folder.specs.ListView.{ListView}
 use Rattle.spec_folder.specs.Completion.{counts, head_counts, links_count}
 use Rattle.blk_disk.specs.declared.tables.BlockFiles.{BlockFiles}
@@ -8,6 +9,7 @@ use Rattle.blk_lru.specs.declared.completing.InFlight.{InFlight}
 use Rattle.blk_lru.specs.declared.completing.Usable.{Usable}
 use Rattle.blk_lru.specs.declared.completing.Usable.TheVariants.{Counts, Fails}
 use Rattle.blk_lru.specs.declared.plans.Neighbours.{Neighbours}
+use Rattle.blk_lru.specs.Nodes.{list_among}
 use Rattle.blk_lru.specs.Plans.{operation_code, word_or_zero, AreBeside, GoesBy, StandBeside, StandsBy}
 
 -- the answer for the head of the list, which is found where it may be used
@@ -19,6 +21,10 @@ FindsHead list (Counts head) = (head_counts list ≡ true) × (word_or_zero head
 abbrev pub FindsNeighbours : ListView → ℕ → Usable (Option Neighbours) → Type 0
 FindsNeighbours list node Fails = links_count list node ≡ false
 FindsNeighbours list node (Counts neighbours) = (links_count list node ≡ true) × AreBeside (list.next node) (list.prev node) neighbours
+
+-- and the one is the node in flight
+abbrev pub FindsNeighboursInFlight : BlockFiles → Usable (Option Neighbours) → Image → Type 0
+FindsNeighboursInFlight files found image = FindsNeighbours (list_among files image) (list_among files image).transaction found
 
 -- the head that was found is a valid node by the table
 abbrev pub FoundHeadStands : BlockFiles → Usable (Option ℕ) → Type 0

@@ -3,6 +3,7 @@ pub mod Damages
 pub mod Writes
 pub mod Plans
 pub mod Lists
+pub mod ListClauses
 pub mod Moments
 pub mod Completing
 pub mod Flights

@@ -13,6 +13,10 @@ abbrev pub word_or_zero : Option ℕ → ℕ
 word_or_zero None = 0
 word_or_zero (Some word) = word
 
+-- the word, or None for 0
+abbrev pub word_or_none : ℕ → Option ℕ
+word_or_none word = if word == 0 then None else Some word
+
 -- the writes that take a node out of the list, by its neighbours: those get new links, and then its own next becomes 0; none where it is in no list
 abbrev pub leaving : (node : ℕ) → Option Neighbours → List ListWrite
 leaving node None = []
@@ -30,9 +34,9 @@ planned node (operations.Insert head) = putting_in_front node (word_or_zero head
 planned node (operations.Remove neighbours) = leaving node neighbours
 planned node (operations.Move neighbours head) = leaving node neighbours ++ Operation insert ∷ putting_in_front node (word_or_zero (head_without node neighbours head))
 
--- the writes of an operation after it is named in the index, and the end of the operation
-abbrev pub pending : (node : ℕ) → code.Operation → List ListWrite
-pending node operation = planned node operation ++ Transaction 0 ∷ []
+-- the writes that are left of an operation once it is named in the index: what it changes, and its end
+abbrev pub writes_left : (node : ℕ) → code.Operation → List ListWrite
+writes_left node operation = planned node operation ++ Transaction 0 ∷ []
 
 -- the code of an operation in the index
 abbrev pub operation_code : code.Operation → ℕ
@@ -42,7 +46,7 @@ operation_code (operations.Move neighbours head) = move
 
 -- all writes of an operation: its code, its node, what it changes, and its end
 abbrev pub whole_plan : (node : ℕ) → code.Operation → List ListWrite
-whole_plan node operation = Operation (operation_code operation) ∷ Transaction node ∷ pending node operation
+whole_plan node operation = Operation (operation_code operation) ∷ Transaction node ∷ writes_left node operation
 
 -- the neighbours of a node with these links, or None where its next is 0 (it is in no list)
 abbrev pub AreBeside : (next prev : ℕ) → Option Neighbours → Type 0

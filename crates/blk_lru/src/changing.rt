@@ -1,20 +1,20 @@
 // Changes of the LRU list, each an operation in flight until its last word.
-ghost use Rattle.std.specs.Prelude.{◌≡◌, ◌≢◌, ◌++◌, ◌∷◌, ◌≤◌, ℕ, List, IfOk, IfSome, IsTrue, None, OnOk, Some, true};
+ghost use Rattle.std.specs.Prelude.{◌≡◌, ◌≢◌, ◌++◌, ◌∷◌, ◌≤◌, IfOk, IfSome, IsTrue, OnOk, Some, true};
 ghost use Rattle.std.specs.Option.{ForSome};
-ghost use Rattle.spec_image.specs.Told.{Applies, MakesPartOf, Passes, Rises, ReadsOnly};
+ghost use Rattle.spec_image.specs.Told.{MakesPartOf, Rises, ReadsOnly, Leaves, LeavesWhere, StopsWhere};
 ghost use Rattle.spec_format.specs.Sealed.{sealed_steps};
 ghost use Rattle.spec_folder.specs.Completion.{insert, move, remove as removal};
 ghost use Rattle.spec_folder.specs.ListPlans.{touch_writes, writes_of};
 ghost use Rattle.spec_folder.specs.View.{list_of};
-ghost use Rattle.spec_folder.specs.ListView.{CanBeInserted};
-ghost use Rattle.spec_folder.specs.ListSteps.{AreTimes, IsSealed, Seals, steps_of_writes, times_of};
+ghost use Rattle.spec_folder.specs.ListSteps.{AreTimes, Seals, steps_of_writes, times_of};
 ghost use Rattle.spec_folder.specs.ListImages.{CanBeMade, HasListAtRest, operation_steps, steps_of_touch, walked};
-ghost use Rattle.blk_io.specs.Faults.{IfDamaged, IfDevice};
+ghost use Rattle.blk_io.specs.Faults.{IfDamaged, IfDevice, UndamagedWhere, OkFor};
 ghost use Rattle.blk_disk.specs.Tables.{Agrees, is_node_among};
 ghost use Rattle.blk_lru.specs.Damages.{IsInsertDamage, IsNeighbourDamage, IsWrongNode, IsRemovalDamage, IsTouchDamage};
 ghost use Rattle.blk_lru.specs.Lists.{CanBeTouched, HasGoodLinks, IsListed};
-ghost use Rattle.blk_lru.specs.Moments.{IsMidOperation, IsMidTouch};
+ghost use Rattle.blk_lru.specs.Moments.{IsMidInsert, IsMidRemove, IsMidAccess};
 ghost use Rattle.blk_lru.specs.Plans.{AreBeside, StandBeside, word_or_zero};
+ghost use Rattle.blk_lru.specs.ListClauses.{MakesAllOf, MayGoInFront, LeavesListed, StopsListed, SealsAccess};
 ghost use Rattle.blk_disk.specs.Open.{IsOpen};
 
 use crate::nodes::link;
@@ -38,19 +38,19 @@ pub fn insert_front<F: Folder>(f: &mut F, files: &BlockFiles, node: Addr) -> Res
 
     // Where the call succeeds, the checksum of each node that was written matched or was absent.
     ensures checked { OnOk result (ForSome (F.told f.old).files (λ from. CanBeMade from (writes_of insert node (list_of from)))) }
-    ensures inserted { OnOk result (ForSome (F.told f.old).files (λ from. CanBeInserted (list_of from) (walked from) node → ForSome (F.told f.new).files (HasListAtRest (node ∷ walked from)))) }
-    ensures sealed { OnOk result (ForSome (F.told f.old).files (λ from. ForSome (F.told f.new).files (Seals from (writes_of insert node (list_of from))))) }
-    ensures steps { OnOk result (ForSome (F.told f.old).files (λ from. Applies (F.told f.old) (F.told f.new) (operation_steps insert node from))) }
+    ensures inserted { OnOk result (LeavesWhere (F.told f.old) (F.told f.new) (MayGoInFront node) (λ from. HasListAtRest (node ∷ walked from))) }
+    ensures sealed { OnOk result (Leaves (F.told f.old) (F.told f.new) (λ from. Seals from (writes_of insert node (list_of from)))) }
+    ensures steps { OnOk result (MakesAllOf (F.told f.old) (F.told f.new) (λ from. operation_steps insert node from)) }
     ensures prefix { MakesPartOf (F.told f.old) (F.told f.new) (λ from. operation_steps insert node from) }
 
     // At each word the redo gives the old list, or from the transaction word on the new one; nothing but the list changes.
-    ensures stops { ForSome (F.told f.old).files (λ from. CanBeInserted (list_of from) (walked from) node → Passes (F.told f.old) (F.told f.new) (IsMidOperation files.now (writes_of insert node (list_of from)) (walked from) (node ∷ walked from) from)) }
+    ensures stops { StopsWhere (F.told f.old) (F.told f.new) (MayGoInFront node) (IsMidInsert files.now node) }
 
     ensures is_open { ForSome (F.told f.new).files (IsOpen files.now) }
 
     // An observable folder reports corruption only where the node can't be inserted.
     ensures damaged { IfDamaged result (IsInsertDamage files.now (F.told f.old) (F.told f.new)) }
-    ensures untold { ForSome (F.told f.old).files (λ from. CanBeInserted (list_of from) (walked from) node) → IfDamaged result (λ _. (F.told f.old).files ≡ None) }
+    ensures untold { UndamagedWhere result (F.told f.old) (MayGoInFront node) }
 
     ensures later { F.faults f.old ≤ F.faults f.new }
     ensures device { IfDevice result (Rises (F.faults f.old) (F.faults f.new)) }
@@ -71,19 +71,19 @@ pub fn remove<F: Folder>(f: &mut F, files: &BlockFiles, node: Addr) -> Result<()
 
     // Where the call succeeds, the checksums of the node and of both nodes that its links name matched or were absent.
     ensures checked { OnOk result (ForSome (F.told f.old).files (λ from. HasGoodLinks (list_of from) node)) }
-    ensures removed { OnOk result (ForSome (F.told f.old).files (λ from. (prefix suffix : List ℕ) → HasListAtRest (prefix ++ node ∷ suffix) from → ForSome (F.told f.new).files (HasListAtRest (prefix ++ suffix)))) }
-    ensures sealed { OnOk result (ForSome (F.told f.old).files (λ from. ForSome (F.told f.new).files (Seals from (writes_of removal node (list_of from))))) }
-    ensures steps { OnOk result (ForSome (F.told f.old).files (λ from. Applies (F.told f.old) (F.told f.new) (operation_steps removal node from))) }
+    ensures removed { OnOk result (LeavesListed node (F.told f.old) (F.told f.new) (λ prefix suffix. prefix ++ suffix)) }
+    ensures sealed { OnOk result (Leaves (F.told f.old) (F.told f.new) (λ from. Seals from (writes_of removal node (list_of from)))) }
+    ensures steps { OnOk result (MakesAllOf (F.told f.old) (F.told f.new) (λ from. operation_steps removal node from)) }
     ensures prefix { MakesPartOf (F.told f.old) (F.told f.new) (λ from. operation_steps removal node from) }
 
     // At each word the redo gives the old list, or from the transaction word on the new one; nothing but the list changes.
-    ensures stops { ForSome (F.told f.old).files (λ from. (prefix suffix : List ℕ) → HasListAtRest (prefix ++ node ∷ suffix) from → Passes (F.told f.old) (F.told f.new) (IsMidOperation files.now (writes_of removal node (list_of from)) (prefix ++ node ∷ suffix) (prefix ++ suffix) from)) }
+    ensures stops { StopsListed node (F.told f.old) (F.told f.new) (IsMidRemove files.now node) }
 
     ensures is_open { ForSome (F.told f.new).files (IsOpen files.now) }
 
     // An observable folder reports corruption only where the node isn't listed.
     ensures damaged { IfDamaged result (IsRemovalDamage node files.now (F.told f.old) (F.told f.new)) }
-    ensures untold { ForSome (F.told f.old).files (IsListed node) → IfDamaged result (λ _. (F.told f.old).files ≡ None) }
+    ensures untold { UndamagedWhere result (F.told f.old) (IsListed node) }
 
     ensures later { F.faults f.old ≤ F.faults f.new }
     ensures device { IfDevice result (Rises (F.faults f.old) (F.faults f.new)) }
@@ -105,20 +105,20 @@ pub fn touch<F: Folder>(f: &mut F, files: &BlockFiles, node: Addr, moment: u64) 
 
     // Where the call succeeds, each node that was written had a right or absent checksum, and so had both neighbours of a node that wasn't the first.
     ensures checked { OnOk result (ForSome (F.told f.old).files (λ from. CanBeTouched from node)) }
-    ensures touched { OnOk result (ForSome (F.told f.old).files (λ from. (prefix suffix : List ℕ) → HasListAtRest (prefix ++ node ∷ suffix) from → ForSome (F.told f.new).files (HasListAtRest (node ∷ prefix ++ suffix)))) }
-    ensures times { OnOk result (ForSome (F.told f.old).files (λ _. ForSome (F.told f.new).files (AreTimes node moment))) }
-    ensures sealed { OnOk result (ForSome (F.told f.old).files (λ from. ForSome (F.told f.new).files (λ image. Seals from (touch_writes node (list_of from)) image × IsSealed image node))) }
-    ensures steps { OnOk result (ForSome (F.told f.old).files (λ from. Applies (F.told f.old) (F.told f.new) (steps_of_touch node moment from))) }
+    ensures touched { OnOk result (LeavesListed node (F.told f.old) (F.told f.new) (λ prefix suffix. node ∷ prefix ++ suffix)) }
+    ensures times { OnOk result (Leaves (F.told f.old) (F.told f.new) (λ _. AreTimes node moment)) }
+    ensures sealed { OnOk result (Leaves (F.told f.old) (F.told f.new) (SealsAccess node)) }
+    ensures steps { OnOk result (MakesAllOf (F.told f.old) (F.told f.new) (λ from. steps_of_touch node moment from)) }
     ensures prefix { MakesPartOf (F.told f.old) (F.told f.new) (λ from. steps_of_touch node moment from) }
 
     // At each word the redo gives the old list, or from the transaction word on the new one; nothing but the list and the times changes.
-    ensures stops { ForSome (F.told f.old).files (λ from. (prefix suffix : List ℕ) → HasListAtRest (prefix ++ node ∷ suffix) from → Passes (F.told f.old) (F.told f.new) (IsMidTouch files.now node (touch_writes node (list_of from)) (prefix ++ node ∷ suffix) (node ∷ prefix ++ suffix) from)) }
+    ensures stops { StopsListed node (F.told f.old) (F.told f.new) (IsMidAccess files.now node) }
 
     ensures is_open { ForSome (F.told f.new).files (IsOpen files.now) }
 
     // An observable folder reports corruption only where the node isn't listed.
     ensures damaged { IfDamaged result (IsTouchDamage node files.now (F.told f.old) (F.told f.new)) }
-    ensures untold { ForSome (F.told f.old).files (IsListed node) → IfDamaged result (λ _. (F.told f.old).files ≡ None) }
+    ensures untold { UndamagedWhere result (F.told f.old) (IsListed node) }
 
     ensures later { F.faults f.old ≤ F.faults f.new }
     ensures device { IfDevice result (Rises (F.faults f.old) (F.faults f.new)) }
@@ -137,11 +137,11 @@ fn set_times<F: Folder>(
     requires stands { is_node_among files.now node ≡ true }
     requires is_open { ForSome (F.told folder.old).files (IsOpen files.now) }
     ensures checked { OnOk result (ForSome (F.told folder.old).files (λ image. (list_of image).checks node ≡ true)) }
-    ensures steps { OnOk result (ForSome (F.told folder.old).files (λ from. Applies (F.told folder.old) (F.told folder.new) (sealed_steps from node (times_of moment)))) }
+    ensures steps { OnOk result (MakesAllOf (F.told folder.old) (F.told folder.new) (λ from. sealed_steps from node (times_of moment))) }
     ensures prefix { MakesPartOf (F.told folder.old) (F.told folder.new) (λ from. sealed_steps from node (times_of moment)) }
     ensures is_open { ForSome (F.told folder.new).files (IsOpen files.now) }
     ensures damaged { IfDamaged result (IsWrongNode files.now (F.told folder.new)) }
-    ensures untold { ForSome (F.told folder.old).files (λ image. (list_of image).checks node ≡ true) → IfDamaged result (λ _. (F.told folder.old).files ≡ None) }
+    ensures untold { UndamagedWhere result (F.told folder.old) (λ image. (list_of image).checks node ≡ true) }
     ensures later { F.faults folder.old ≤ F.faults folder.new }
     ensures device { IfDevice result (Rises (F.faults folder.old) (F.faults folder.new)) }
 {
@@ -162,11 +162,11 @@ fn move_front<F: Folder>(folder: &mut F, files: &BlockFiles, node: Addr) -> Resu
     requires is_open { ForSome (F.told folder.old).files (IsOpen files.now) }
     ensures checked { OnOk result (ForSome (F.told folder.old).files (λ from. CanBeMade from (touch_writes node (list_of from)))) }
     ensures linked { OnOk result (ForSome (F.told folder.old).files (λ from. (list_of from).head ≢ node → HasGoodLinks (list_of from) node)) }
-    ensures steps { OnOk result (ForSome (F.told folder.old).files (λ from. Applies (F.told folder.old) (F.told folder.new) (steps_of_writes (touch_writes node (list_of from)) from))) }
+    ensures steps { OnOk result (MakesAllOf (F.told folder.old) (F.told folder.new) (λ from. steps_of_writes (touch_writes node (list_of from)) from)) }
     ensures prefix { MakesPartOf (F.told folder.old) (F.told folder.new) (λ from. steps_of_writes (touch_writes node (list_of from)) from) }
     ensures is_open { ForSome (F.told folder.new).files (IsOpen files.now) }
     ensures damaged { IfDamaged result (IsTouchDamage node files.now (F.told folder.old) (F.told folder.new)) }
-    ensures untold { ForSome (F.told folder.old).files (IsListed node) → IfDamaged result (λ _. (F.told folder.old).files ≡ None) }
+    ensures untold { UndamagedWhere result (F.told folder.old) (IsListed node) }
     ensures later { F.faults folder.old ≤ F.faults folder.new }
     ensures device { IfDevice result (Rises (F.faults folder.old) (F.faults folder.new)) }
 {
@@ -190,11 +190,11 @@ fn move_behind<F: Folder>(
     requires head { ForSome (F.told folder.old).files (λ image. word_or_zero head ≡ (list_of image).head) }
     ensures checked { OnOk result (ForSome (F.told folder.old).files (λ from. CanBeMade from (writes_of move node (list_of from)))) }
     ensures linked { OnOk result (ForSome (F.told folder.old).files (λ from. HasGoodLinks (list_of from) node)) }
-    ensures steps { OnOk result (ForSome (F.told folder.old).files (λ from. Applies (F.told folder.old) (F.told folder.new) (operation_steps move node from))) }
+    ensures steps { OnOk result (MakesAllOf (F.told folder.old) (F.told folder.new) (λ from. operation_steps move node from)) }
     ensures prefix { MakesPartOf (F.told folder.old) (F.told folder.new) (λ from. operation_steps move node from) }
     ensures is_open { ForSome (F.told folder.new).files (IsOpen files.now) }
     ensures damaged { IfDamaged result (IsRemovalDamage node files.now (F.told folder.old) (F.told folder.new)) }
-    ensures untold { ForSome (F.told folder.old).files (IsListed node) → IfDamaged result (λ _. (F.told folder.old).files ≡ None) }
+    ensures untold { UndamagedWhere result (F.told folder.old) (IsListed node) }
     ensures later { F.faults folder.old ≤ F.faults folder.new }
     ensures device { IfDevice result (Rises (F.faults folder.old) (F.faults folder.new)) }
 {
@@ -212,11 +212,11 @@ fn neighbours<F: Folder>(
 ) -> Result<Neighbours, Fault>
     requires stands { IsTrue (is_node_among files.now node) }
     requires agrees { ForSome (F.told folder.old).files (Agrees files.now) }
-    ensures words { IfOk result (λ neighbours. ForSome (F.told folder.old).files (λ image. AreBeside ((list_of image).next node) ((list_of image).prev node) (Some neighbours))) }
+    ensures words { OkFor result (F.told folder.old) (λ found image. AreBeside ((list_of image).next node) ((list_of image).prev node) (Some found)) }
     ensures stand { IfOk result (StandBeside files.now) }
     ensures reads { ReadsOnly F.told F.faults folder.old folder.new (IfDevice result) }
     ensures damaged { IfDamaged result (IsNeighbourDamage node files.now (F.told folder.old) (F.told folder.new)) }
-    ensures untold { ForSome (F.told folder.old).files (IsListed node) → IfDamaged result (λ _. (F.told folder.old).files ≡ None) }
+    ensures untold { UndamagedWhere result (F.told folder.old) (IsListed node) }
 {
     let next = link(folder, files, node, NodeView::NEXT)?;
     let prev = link(folder, files, node, NodeView::PREV)?;

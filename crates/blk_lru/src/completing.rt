@@ -1,19 +1,20 @@
 // The redo of the operation in flight.
 ghost use Rattle.std.specs.Prelude.{◌≡◌, ◌≤◌, None, IfOk, IfSome, OnOk, map, true};
 ghost use Rattle.std.specs.Option.{ForSome};
-ghost use Rattle.spec_image.specs.Told.{Applies, MakesPartOf, Passes, Rises, ReadsOnly};
+ghost use Rattle.spec_image.specs.Told.{MakesPartOf, Passes, Rises, ReadsOnly, Leaves};
 ghost use Rattle.spec_folder.specs.ListPlans.{completion_writes};
 ghost use Rattle.spec_folder.specs.View.{list_of};
 ghost use Rattle.spec_folder.specs.ListSteps.{AreOf, AllWriteWords, Seals};
 ghost use Rattle.spec_folder.specs.ListImages.{IsCompleted, completion_steps};
-ghost use Rattle.blk_io.specs.Faults.{IfDamaged, IfDevice};
+ghost use Rattle.blk_io.specs.Faults.{IfDamaged, IfDevice, OpaqueIfDamaged, UndamagedWhere, OkFor};
 ghost use Rattle.blk_disk.specs.Tables.{Agrees, is_node_among};
 ghost use Rattle.blk_lru.specs.Damages.{IsCompletingDamage, IsPendingDamage, IsShortNode};
 ghost use Rattle.blk_lru.specs.Moments.{IsMidCompletion};
 ghost use Rattle.blk_lru.specs.Nodes.{AreLinksOf, list_among};
 ghost use Rattle.blk_lru.specs.Flights.{HasFlight, HasHead, HasNeighbours, HasNodeInFlight, HasOperands};
 ghost use Rattle.blk_lru.specs.Writes.{meant};
-ghost use Rattle.blk_lru.specs.Completing.{AreNodes, FindsInFlight, FindsNeighbours, FindsHead, FoundNeighboursStand, FoundHeadStands};
+ghost use Rattle.blk_lru.specs.Completing.{AreNodes, FindsInFlight, FindsHead, FoundNeighboursStand, FoundHeadStands, FindsNeighboursInFlight};
+ghost use Rattle.blk_lru.specs.ListClauses.{MakesAllOf};
 ghost use Rattle.blk_disk.specs.Open.{IsOpen};
 
 use crate::nodes::{Links, checked};
@@ -47,9 +48,9 @@ pub(crate) enum Usable<T> {
 /// the transaction word becomes 0. Where there is none in flight nothing is written. The list need not be whole. This takes at most 34 folder calls.
 pub fn complete<F: Folder>(f: &mut F, files: &BlockFiles) -> Result<(), Fault>
     requires is_open { ForSome (F.told f.old).files (IsOpen files.now) }
-    ensures sealed { OnOk result (ForSome (F.told f.old).files (λ from. ForSome (F.told f.new).files (Seals from (completion_writes (list_of from))))) }
-    ensures done { OnOk result (ForSome (F.told f.old).files (λ from. ForSome (F.told f.new).files (IsCompleted from))) }
-    ensures steps { OnOk result (ForSome (F.told f.old).files (λ from. Applies (F.told f.old) (F.told f.new) (completion_steps from))) }
+    ensures sealed { OnOk result (Leaves (F.told f.old) (F.told f.new) (λ from. Seals from (completion_writes (list_of from)))) }
+    ensures done { OnOk result (Leaves (F.told f.old) (F.told f.new) IsCompleted) }
+    ensures steps { OnOk result (MakesAllOf (F.told f.old) (F.told f.new) (λ from. completion_steps from)) }
     ensures prefix { MakesPartOf (F.told f.old) (F.told f.new) (λ from. completion_steps from) }
 
     // At each word the redo gives what it gave at the entry, so it may crash and be begun again; nothing but the list changes.
@@ -59,7 +60,7 @@ pub fn complete<F: Folder>(f: &mut F, files: &BlockFiles) -> Result<(), Fault>
 
     // An observable folder never reports corruption.
     ensures damaged { IfDamaged result (IsCompletingDamage files.now (F.told f.new)) }
-    ensures untold { IfDamaged result (λ _. (F.told f.old).files ≡ None) }
+    ensures untold { OpaqueIfDamaged result (F.told f.old) }
 
     ensures later { F.faults f.old ≤ F.faults f.new }
     ensures device { IfDevice result (Rises (F.faults f.old) (F.faults f.new)) }
@@ -73,14 +74,14 @@ pub fn complete<F: Folder>(f: &mut F, files: &BlockFiles) -> Result<(), Fault>
 /// It is nothing where no operation is in flight. Nothing is written, and at most 6 folder calls are made.
 pub fn pending<F: Folder>(folder: &mut F, files: &BlockFiles) -> Result<Plan, Fault>
     ensures words { IfOk result (λ plan. AllWriteWords (map meant plan.items)) }
-    ensures plan { IfOk result (λ plan. ForSome (F.told folder.old).files (λ image. Agrees files.now image → map meant plan.items ≡ completion_writes (list_of image))) }
+    ensures plan { OkFor result (F.told folder.old) (λ plan image. Agrees files.now image → map meant plan.items ≡ completion_writes (list_of image)) }
     ensures stand { IfOk result (λ plan. AreOf (λ n. is_node_among files.now n ≡ true) (map meant plan.items)) }
     ensures checked { OnOk result (ForSome (F.told folder.old).files (HasFlight files.now)) }
     ensures reads { ReadsOnly F.told F.faults folder.old folder.new (IfDevice result) }
 
     // Too few bytes, which an observable folder gives only where its index is too short or the block files don't agree with it.
     ensures damaged { IfDamaged result (IsPendingDamage files.now (F.told folder.new)) }
-    ensures untold { ForSome (F.told folder.old).files (IsOpen files.now) → IfDamaged result (λ _. (F.told folder.old).files ≡ None) }
+    ensures untold { UndamagedWhere result (F.told folder.old) (IsOpen files.now) }
 {
     let transaction = word(folder, TRANSACTION)?;
     if transaction == 0 {
@@ -99,12 +100,12 @@ fn in_flight<F: Folder>(
     transaction: u32,
 ) -> Result<Option<InFlight>, Fault>
     requires transaction { ForSome (F.told folder.old).files (λ image. (list_among files.now image).transaction ≡ transaction) }
-    ensures found { IfOk result (λ found. ForSome (F.told folder.old).files (λ image. FindsInFlight (list_among files.now image) found)) }
+    ensures found { OkFor result (F.told folder.old) (λ found image. FindsInFlight (list_among files.now image) found) }
     ensures stand { IfOk result (λ found. IfSome found (AreNodes files.now)) }
     ensures checked { OnOk result (ForSome (F.told folder.old).files (HasNodeInFlight files.now)) }
     ensures reads { ReadsOnly F.told F.faults folder.old folder.new (IfDevice result) }
     ensures damaged { IfDamaged result (IsPendingDamage files.now (F.told folder.new)) }
-    ensures untold { ForSome (F.told folder.old).files (IsOpen files.now) → IfDamaged result (λ _. (F.told folder.old).files ≡ None) }
+    ensures untold { UndamagedWhere result (F.told folder.old) (IsOpen files.now) }
 {
     let Some(links) = checked(folder, files, transaction)? else {
         return Ok(None);
@@ -123,12 +124,12 @@ fn counting<F: Folder>(
     requires stands { is_node_among files.now links.now.node ≡ true }
     requires links { ForSome (F.told folder.old).files (λ image. AreLinksOf (list_among files.now image) (list_among files.now image).transaction links.now) }
     requires operation { ForSome (F.told folder.old).files (λ image. (list_among files.now image).operation ≡ code) }
-    ensures found { IfOk result (λ found. ForSome (F.told folder.old).files (λ image. FindsInFlight (list_among files.now image) found)) }
+    ensures found { OkFor result (F.told folder.old) (λ found image. FindsInFlight (list_among files.now image) found) }
     ensures stand { IfOk result (λ found. IfSome found (AreNodes files.now)) }
     ensures checked { OnOk result (ForSome (F.told folder.old).files (HasOperands files.now)) }
     ensures reads { ReadsOnly F.told F.faults folder.old folder.new (IfDevice result) }
     ensures damaged { IfDamaged result (IsPendingDamage files.now (F.told folder.new)) }
-    ensures untold { ForSome (F.told folder.old).files (IsOpen files.now) → IfDamaged result (λ _. (F.told folder.old).files ≡ None) }
+    ensures untold { UndamagedWhere result (F.told folder.old) (IsOpen files.now) }
 {
     let node = links.node;
     match code {
@@ -162,12 +163,12 @@ fn counting<F: Folder>(
 
 // The head of the list or none, where its word is 0 or names a node that passes its check.
 fn usable_head<F: Folder>(folder: &mut F, files: &BlockFiles) -> Result<Usable<Option<Addr>>, Fault>
-    ensures found { IfOk result (λ found. ForSome (F.told folder.old).files (λ image. FindsHead (list_among files.now image) found)) }
+    ensures found { OkFor result (F.told folder.old) (λ found image. FindsHead (list_among files.now image) found) }
     ensures stand { IfOk result (FoundHeadStands files.now) }
     ensures checked { OnOk result (ForSome (F.told folder.old).files (HasHead files.now)) }
     ensures reads { ReadsOnly F.told F.faults folder.old folder.new (IfDevice result) }
     ensures damaged { IfDamaged result (IsPendingDamage files.now (F.told folder.new)) }
-    ensures untold { ForSome (F.told folder.old).files (IsOpen files.now) → IfDamaged result (λ _. (F.told folder.old).files ≡ None) }
+    ensures untold { UndamagedWhere result (F.told folder.old) (IsOpen files.now) }
 {
     let head = word(folder, HEAD)?;
     if head == 0 {
@@ -187,12 +188,12 @@ fn usable_links<F: Folder>(
 ) -> Result<Usable<Option<Neighbours>>, Fault>
     requires stands { is_node_among files.now links.now.node ≡ true }
     requires links { ForSome (F.told folder.old).files (λ image. AreLinksOf (list_among files.now image) (list_among files.now image).transaction links.now) }
-    ensures found { IfOk result (λ found. ForSome (F.told folder.old).files (λ image. FindsNeighbours (list_among files.now image) (list_among files.now image).transaction found)) }
+    ensures found { OkFor result (F.told folder.old) (FindsNeighboursInFlight files.now) }
     ensures stand { IfOk result (FoundNeighboursStand files.now) }
     ensures checked { OnOk result (ForSome (F.told folder.old).files (λ image. HasNeighbours files.now image (list_among files.now image).transaction)) }
     ensures reads { ReadsOnly F.told F.faults folder.old folder.new (IfDevice result) }
     ensures damaged { IfDamaged result (IsShortNode files.now (F.told folder.new)) }
-    ensures untold { ForSome (F.told folder.old).files (Agrees files.now) → IfDamaged result (λ _. (F.told folder.old).files ≡ None) }
+    ensures untold { UndamagedWhere result (F.told folder.old) (Agrees files.now) }
 {
     if links.next == 0 {
         return Ok(Usable::Counts(None));

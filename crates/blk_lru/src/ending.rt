@@ -1,16 +1,17 @@
 // The end of the LRU list.
 ghost use Rattle.std.specs.Prelude.{◌≡◌, ◌≤◌, IfOk, IfSome, None, OnOk, map, true};
 ghost use Rattle.std.specs.Option.{ForSome};
-ghost use Rattle.spec_image.specs.Told.{Applies, MakesPartOf, Rises, ReadsOnly};
+ghost use Rattle.spec_image.specs.Told.{MakesPartOf, Rises, ReadsOnly, Leaves};
 ghost use Rattle.spec_folder.specs.ListPlans.{ending_writes, front_of};
 ghost use Rattle.spec_folder.specs.ListSteps.{AllWriteWords, AreOf, Seals, steps_of_writes};
 ghost use Rattle.spec_folder.specs.ListImages.{CanBeMade};
 ghost use Rattle.spec_folder.specs.View.{list_of};
-ghost use Rattle.blk_io.specs.Faults.{IfDamaged, IfDevice};
+ghost use Rattle.blk_io.specs.Faults.{IfDamaged, IfDevice, UndamagedWhere, OkFor};
 ghost use Rattle.blk_disk.specs.Open.{IsOpen};
 ghost use Rattle.blk_disk.specs.Tables.{Agrees, is_node_among};
 ghost use Rattle.blk_lru.specs.Damages.{IsEndDamage, IsEndReadDamage, IsFrontDamage};
 ghost use Rattle.blk_lru.specs.Writes.{meant};
+ghost use Rattle.blk_lru.specs.ListClauses.{MakesAllOf};
 
 use crate::nodes::link_word;
 use crate::plans::{Plan, end_plan};
@@ -35,14 +36,14 @@ pub fn end_at<F: Folder>(
     requires stands { IfSome last (λ node. is_node_among files.now node ≡ true) }
     requires is_open { ForSome (F.told folder.old).files (IsOpen files.now) }
     ensures checked { OnOk result (ForSome (F.told folder.old).files (λ from. CanBeMade from (ending_writes (list_of from) last))) }
-    ensures sealed { OnOk result (ForSome (F.told folder.old).files (λ from. ForSome (F.told folder.new).files (Seals from (ending_writes (list_of from) last)))) }
-    ensures steps { OnOk result (ForSome (F.told folder.old).files (λ from. Applies (F.told folder.old) (F.told folder.new) (steps_of_writes (ending_writes (list_of from) last) from))) }
+    ensures sealed { OnOk result (Leaves (F.told folder.old) (F.told folder.new) (λ from. Seals from (ending_writes (list_of from) last))) }
+    ensures steps { OnOk result (MakesAllOf (F.told folder.old) (F.told folder.new) (λ from. steps_of_writes (ending_writes (list_of from) last) from)) }
     ensures prefix { MakesPartOf (F.told folder.old) (F.told folder.new) (λ from. steps_of_writes (ending_writes (list_of from) last) from) }
     ensures is_open { ForSome (F.told folder.new).files (IsOpen files.now) }
 
     // An observable folder reports corruption only where the node is to be written and has a wrong checksum.
     ensures damaged { IfDamaged result (IsEndDamage last files.now (F.told folder.old) (F.told folder.new)) }
-    ensures untold { ForSome (F.told folder.old).files (λ from. CanBeMade from (ending_writes (list_of from) last)) → IfDamaged result (λ _. (F.told folder.old).files ≡ None) }
+    ensures untold { UndamagedWhere result (F.told folder.old) (λ from. CanBeMade from (ending_writes (list_of from) last)) }
 
     ensures later { F.faults folder.old ≤ F.faults folder.new }
     ensures device { IfDevice result (Rises (F.faults folder.old) (F.faults folder.new)) }
@@ -58,12 +59,12 @@ fn ending_of<F: Folder>(
     last: Option<Addr>,
 ) -> Result<Plan, Fault>
     requires stands { IfSome last (λ node. is_node_among files.now node ≡ true) }
-    ensures plan { IfOk result (λ plan. ForSome (F.told folder.old).files (λ image. Agrees files.now image → map meant plan.items ≡ ending_writes (list_of image) last)) }
+    ensures plan { OkFor result (F.told folder.old) (λ plan image. Agrees files.now image → map meant plan.items ≡ ending_writes (list_of image) last) }
     ensures stand { IfOk result (λ plan. AreOf (λ n. is_node_among files.now n ≡ true) (map meant plan.items)) }
     ensures words { IfOk result (λ plan. AllWriteWords (map meant plan.items)) }
     ensures reads { ReadsOnly F.told F.faults folder.old folder.new (IfDevice result) }
     ensures damaged { IfDamaged result (IsEndReadDamage last (F.told folder.old)) }
-    ensures untold { ForSome (F.told folder.old).files (IsOpen files.now) → IfDamaged result (λ _. (F.told folder.old).files ≡ None) }
+    ensures untold { UndamagedWhere result (F.told folder.old) (IsOpen files.now) }
 {
     let front = front_word(folder, files, last)?;
     let tail = word(folder, TAIL)?;
@@ -77,10 +78,10 @@ fn front_word<F: Folder>(
     last: Option<Addr>,
 ) -> Result<u32, Fault>
     requires stands { IfSome last (λ node. is_node_among files.now node ≡ true) }
-    ensures word { IfOk result (λ front. ForSome (F.told folder.old).files (λ image. Agrees files.now image → front ≡ front_of (list_of image) last)) }
+    ensures word { OkFor result (F.told folder.old) (λ front image. Agrees files.now image → front ≡ front_of (list_of image) last) }
     ensures reads { ReadsOnly F.told F.faults folder.old folder.new (IfDevice result) }
     ensures damaged { IfDamaged result (IsFrontDamage last (F.told folder.old)) }
-    ensures untold { ForSome (F.told folder.old).files (IsOpen files.now) → IfDamaged result (λ _. (F.told folder.old).files ≡ None) }
+    ensures untold { UndamagedWhere result (F.told folder.old) (IsOpen files.now) }
 {
     match last {
         Some(node) => link_word(folder, files, node, NodeView::NEXT),

@@ -1,16 +1,16 @@
 // Words that name nodes, and the links of nodes.
-ghost use Rattle.std.specs.Prelude.{◌≡◌, ◌+◌, IfOk, IfSome, IsTrue, None, OnOk, Some, if◌then◌else◌, length, true};
+ghost use Rattle.std.specs.Prelude.{◌≡◌, ◌+◌, IfOk, IfSome, IsTrue, None, OnOk, Some, length, true};
 ghost use Rattle.std.specs.Option.{ForSome};
-ghost use Rattle.spec_image.specs.Bytes.{content, word_at};
 ghost use Rattle.spec_image.specs.Image.{Block as block, HasRange};
 ghost use Rattle.spec_image.specs.Told.{ReadsOnly};
 ghost use Rattle.spec_format.specs.Address.{file_selector, place};
-ghost use Rattle.spec_format.specs.Records.{checks, node_seal_place, node_size};
+ghost use Rattle.spec_format.specs.Records.{checks, node_size};
 ghost use Rattle.blk_io.specs.declared.folder.FileId.TheVariants as names;
-ghost use Rattle.blk_io.specs.Faults.{IfDamaged, IfDevice, IsShort};
+ghost use Rattle.blk_io.specs.Faults.{IfDamaged, IfDevice, IsShort, UndamagedWhere, OkFor};
 ghost use Rattle.blk_disk.specs.Tables.{Agrees, is_node_among};
 ghost use Rattle.blk_lru.specs.Damages.{IsNodeLinkDamage, IsShortNode};
-ghost use Rattle.blk_lru.specs.Nodes.{link_at, list_among, FindsNode, HasNode, IsLinkPlace};
+ghost use Rattle.blk_lru.specs.Nodes.{link_at, list_among, FindsNode, HasNode, IsLinkPlace, links_by};
+ghost use Rattle.blk_lru.specs.ListClauses.{LinkStands, UndamagedWithBoth};
 
 use blk_addr::Addr;
 use blk_disk::{BlockFiles, file_of};
@@ -34,12 +34,12 @@ pub(crate) fn link<F: Folder>(
 ) -> Result<Addr, Fault>
     requires stands { IsTrue (is_node_among files.now node) }
     requires place { IsLinkPlace at }
-    ensures word { IfOk result (λ found. ForSome (F.told folder.old).files (λ image. found ≡ link_at image node at)) }
+    ensures word { OkFor result (F.told folder.old) (λ found image. found ≡ link_at image node at) }
     ensures stands { IfOk result (λ found. IsTrue (is_node_among files.now found)) }
     ensures checked { OnOk result (ForSome (F.told folder.old).files (λ image. HasRange image (block (file_selector node)) (place node + at) 4)) }
     ensures reads { ReadsOnly F.told F.faults folder.old folder.new (IfDevice result) }
     ensures damaged { IfDamaged result (IsNodeLinkDamage node at files.now (F.told folder.old)) }
-    ensures untold { ForSome (F.told folder.old).files (Agrees files.now) → ForSome (F.told folder.old).files (λ image. is_node_among files.now (link_at image node at) ≡ true) → IfDamaged result (λ _. (F.told folder.old).files ≡ None) }
+    ensures untold { UndamagedWithBoth result (F.told folder.old) (Agrees files.now) (LinkStands files.now node at) }
 {
     let mut bytes = [0u8; 4];
     files.read_block(folder, node, at, &mut bytes)?;
@@ -63,10 +63,10 @@ pub(crate) fn link_word<F: Folder>(
 ) -> Result<u32, Fault>
     requires stands { is_node_among files.now node ≡ true }
     requires place { IsLinkPlace at }
-    ensures word { IfOk result (λ found. ForSome (F.told folder.old).files (λ image. found ≡ link_at image node at)) }
+    ensures word { OkFor result (F.told folder.old) (λ found image. found ≡ link_at image node at) }
     ensures reads { ReadsOnly F.told F.faults folder.old folder.new (IfDevice result) }
     ensures damaged { IfDamaged result (IsShort (F.told folder.old) (names.Block (file_selector node)) (place node + at) 4) }
-    ensures untold { ForSome (F.told folder.old).files (Agrees files.now) → IfDamaged result (λ _. (F.told folder.old).files ≡ None) }
+    ensures untold { UndamagedWhere result (F.told folder.old) (Agrees files.now) }
 {
     let mut bytes = [0u8; 4];
     files.read_block(folder, node, at, &mut bytes)?;
@@ -79,12 +79,12 @@ pub(crate) fn checked<F: Folder>(
     files: &BlockFiles,
     word: u32,
 ) -> Result<Option<Links>, Fault>
-    ensures found { IfOk result (λ found. ForSome (F.told folder.old).files (λ image. FindsNode (list_among files.now image) word found)) }
+    ensures found { OkFor result (F.told folder.old) (λ found image. FindsNode (list_among files.now image) word found) }
     ensures stands { IfOk result (λ found. IfSome found (λ links. is_node_among files.now links.node ≡ true)) }
     ensures checked { OnOk result (ForSome (F.told folder.old).files (λ image. HasNode files.now image word)) }
     ensures reads { ReadsOnly F.told F.faults folder.old folder.new (IfDevice result) }
     ensures damaged { IfDamaged result (IsShortNode files.now (F.told folder.new)) }
-    ensures untold { ForSome (F.told folder.old).files (Agrees files.now) → IfDamaged result (λ _. (F.told folder.old).files ≡ None) }
+    ensures untold { UndamagedWhere result (F.told folder.old) (Agrees files.now) }
 {
     let Some(node) = files.node(word) else {
         return Ok(None);
@@ -97,7 +97,7 @@ pub(crate) fn checked<F: Folder>(
 // The links of a node that has these bytes, where its checksum matches or is absent.
 fn links_in(node: Addr, window: &[u8]) -> Option<Links>
     requires { length window.now ≡ node_size }
-    ensures { result ≡ (if checks node_seal_place window.now then Some (record { node = node; next = word_at (content window.now) NodeView.NEXT; prev = word_at (content window.now) NodeView.PREV }) else None) }
+    ensures { result ≡ links_by node window.now }
 {
     let Some(view) = NodeView::over(window) else {
         unreachable!();

@@ -3,7 +3,7 @@ ghost use Rattle.std.specs.Prelude.{◌≡◌, ◌+◌, ◌++◌, ◌∷◌, ◌
 ghost use Rattle.spec_folder.specs.Completion.{putting_in_front};
 ghost use Rattle.spec_folder.specs.ListPlans.{ending_by};
 ghost use Rattle.spec_folder.specs.ListView as list;
-ghost use Rattle.blk_lru.specs.Plans.{operation_code, leaving, pending, whole_plan, word_or_zero};
+ghost use Rattle.blk_lru.specs.Plans.{operation_code, leaving, writes_left, whole_plan, word_or_zero};
 ghost use Rattle.blk_lru.specs.Plans as plans;
 ghost use Rattle.blk_lru.specs.Writes.{meant};
 
@@ -78,7 +78,7 @@ pub(crate) fn plan_of(node: Addr, operation: &Operation) -> Plan
 
 // What is left to write of an operation in flight.
 pub(crate) fn pending_of(node: Addr, operation: &Operation) -> Plan
-    ensures { map meant result.items ≡ pending node operation.now }
+    ensures { map meant result.items ≡ writes_left node operation.now }
 {
     let mut plan = ArrayVec::new();
     add_pending(&mut plan, node, operation);
@@ -116,7 +116,7 @@ pub(crate) fn end_plan(last: &Option<Addr>, front: u32, tail: u32) -> Plan
 // Adds what an operation writes after its code and its node.
 fn add_pending(plan: &mut Plan, node: Addr, operation: &Operation)
     requires room { length plan.old.items ≤ 2 }
-    ensures { map meant plan.new.items ≡ map meant plan.old.items ++ pending node operation.now }
+    ensures { map meant plan.new.items ≡ map meant plan.old.items ++ writes_left node operation.now }
 {
     match operation {
         Operation::Insert { head } => put_front(plan, node, *head),

@@ -1,20 +1,21 @@
 // The order of the LRU list.
-ghost use Rattle.std.specs.Prelude.{◌≡◌, ◌+◌, ◌++◌, ◌∷◌, ◌<◌, ◌%◌, ◌==◌, ℕ, List, IfOk, IfSome, IsTrue, None, OnOk, Some, if◌then◌else◌};
+ghost use Rattle.std.specs.Prelude.{◌≡◌, ◌+◌, ◌<◌, ◌%◌, ◌==◌, IfOk, IfSome, IsTrue, None, OnOk, Some, if◌then◌else◌};
 ghost use Rattle.std.specs.Option.{ForSome};
 ghost use Rattle.spec_image.specs.Image.{word as image_word, Block as block, Index as index, HasRange};
 ghost use Rattle.spec_image.specs.Told.{ReadsOnly};
 ghost use Rattle.spec_format.specs.Address.{file_selector, place};
 ghost use Rattle.spec_format.specs.Headers.{header_length, HasWholeIndex};
 ghost use Rattle.spec_folder.specs.View.{list_of};
-ghost use Rattle.spec_folder.specs.ListImages.{HasListAtRest, walked};
+ghost use Rattle.spec_folder.specs.ListImages.{walked};
 ghost use Rattle.blk_io.specs.declared.folder.FileId.TheVariants as names;
-ghost use Rattle.blk_io.specs.Faults.{IfDamaged, IfDevice};
+ghost use Rattle.blk_io.specs.Faults.{IfDamaged, IfDevice, OkFor};
 ghost use Rattle.blk_disk.specs.Tables.{Agrees, is_node_among};
 ghost use Rattle.blk_disk.specs.Damages.{IsNodeWordDamage};
 ghost use Rattle.blk_lru.specs.Damages.{IsListHeadDamage, IsNodeLinkDamage, IsListTailDamage};
-ghost use Rattle.blk_lru.specs.Nodes.{link_at, IsNodeOrNone};
+ghost use Rattle.blk_lru.specs.Nodes.{IsNodeOrNone, other_node_at};
 ghost use Rattle.blk_lru.specs.Lists.{IsListed, IsListAtRest, first_node_of, last_node_of};
-ghost use Rattle.blk_lru.specs.Plans.{word_or_zero};
+ghost use Rattle.blk_lru.specs.Plans.{word_or_zero, word_or_none};
+ghost use Rattle.blk_lru.specs.ListClauses.{ForBothSides, UndamagedWithBoth};
 
 use crate::nodes::link;
 use blk_addr::Addr;
@@ -35,15 +36,15 @@ pub(crate) const TAIL: u64 = IndexHead::TAILS;
 ///
 /// A word that is neither 0 nor the address of a node that is there is corruption.
 pub fn first<F: Folder>(f: &mut F, files: &BlockFiles) -> Result<Option<Addr>, Fault>
-    ensures node { IfOk result (λ node. ForSome (F.told f.old).files (λ image. IsListAtRest image → node ≡ first_node_of (walked image))) }
-    ensures word { IfOk result (λ node. ForSome (F.told f.old).files (λ image. word_or_zero node ≡ (list_of image).head)) }
+    ensures node { OkFor result (F.told f.old) (λ node image. IsListAtRest image → node ≡ first_node_of (walked image)) }
+    ensures word { OkFor result (F.told f.old) (λ node image. word_or_zero node ≡ (list_of image).head) }
     ensures stands { IfOk result (λ node. IfSome node (λ n. IsTrue (is_node_among files.now n))) }
     ensures checked { OnOk result (ForSome (F.told f.old).files (λ image. HasRange image index IndexHead.HEADS 4)) }
     ensures reads { ReadsOnly F.told F.faults f.old f.new (IfDevice result) }
 
     // Too few bytes, or a word that names no node, which no observable folder gives whose list is idle.
     ensures damaged { IfDamaged result (IsListHeadDamage files.now (F.told f.old)) }
-    ensures untold { ForSome (F.told f.old).files HasWholeIndex → ForSome (F.told f.old).files (Agrees files.now) → ForSome (F.told f.old).files IsListAtRest → IfDamaged result (λ _. (F.told f.old).files ≡ None) }
+    ensures untold { ForSome (F.told f.old).files HasWholeIndex → UndamagedWithBoth result (F.told f.old) (Agrees files.now) IsListAtRest }
 {
     end_of_list(f, files, HEAD)
 }
@@ -52,15 +53,15 @@ pub fn first<F: Folder>(f: &mut F, files: &BlockFiles) -> Result<Option<Addr>, F
 ///
 /// A word that is neither 0 nor the address of a node that is there is corruption.
 pub fn last<F: Folder>(f: &mut F, files: &BlockFiles) -> Result<Option<Addr>, Fault>
-    ensures node { IfOk result (λ node. ForSome (F.told f.old).files (λ image. IsListAtRest image → node ≡ last_node_of (walked image))) }
-    ensures word { IfOk result (λ node. ForSome (F.told f.old).files (λ image. word_or_zero node ≡ (list_of image).tail)) }
+    ensures node { OkFor result (F.told f.old) (λ node image. IsListAtRest image → node ≡ last_node_of (walked image)) }
+    ensures word { OkFor result (F.told f.old) (λ node image. word_or_zero node ≡ (list_of image).tail) }
     ensures stands { IfOk result (λ node. IfSome node (λ n. IsTrue (is_node_among files.now n))) }
     ensures checked { OnOk result (ForSome (F.told f.old).files (λ image. HasRange image index IndexHead.TAILS 4)) }
     ensures reads { ReadsOnly F.told F.faults f.old f.new (IfDevice result) }
 
     // Too few bytes, or a word that names no node, which no observable folder gives whose list is idle.
     ensures damaged { IfDamaged result (IsListTailDamage files.now (F.told f.old)) }
-    ensures untold { ForSome (F.told f.old).files HasWholeIndex → ForSome (F.told f.old).files (Agrees files.now) → ForSome (F.told f.old).files IsListAtRest → IfDamaged result (λ _. (F.told f.old).files ≡ None) }
+    ensures untold { ForSome (F.told f.old).files HasWholeIndex → UndamagedWithBoth result (F.told f.old) (Agrees files.now) IsListAtRest }
 {
     end_of_list(f, files, TAIL)
 }
@@ -70,15 +71,15 @@ pub fn last<F: Folder>(f: &mut F, files: &BlockFiles) -> Result<Option<Addr>, Fa
 /// A link that isn't the address of a node that is there is corruption.
 pub fn before<F: Folder>(f: &mut F, files: &BlockFiles, node: Addr) -> Result<Option<Addr>, Fault>
     requires stands { IsTrue (is_node_among files.now node) }
-    ensures node { IfOk result (λ found. ForSome (F.told f.old).files (λ image. Agrees files.now image → (prefix suffix : List ℕ) → HasListAtRest (prefix ++ node ∷ suffix) image → found ≡ last_node_of prefix)) }
-    ensures word { IfOk result (λ found. ForSome (F.told f.old).files (λ image. found ≡ (if link_at image node NodeView.PREV == node then None else Some (link_at image node NodeView.PREV)))) }
+    ensures node { OkFor result (F.told f.old) (λ found. ForBothSides files.now node (λ prefix suffix. found ≡ last_node_of prefix)) }
+    ensures word { OkFor result (F.told f.old) (λ found image. found ≡ other_node_at image node NodeView.PREV) }
     ensures stands { IfOk result (λ found. IfSome found (λ n. IsTrue (is_node_among files.now n))) }
     ensures checked { OnOk result (ForSome (F.told f.old).files (λ image. HasRange image (block (file_selector node)) (place node + NodeView.PREV) 4)) }
     ensures reads { ReadsOnly F.told F.faults f.old f.new (IfDevice result) }
 
     // Too few bytes, or a word that names no node, which no observable folder gives in whose list the node is.
     ensures damaged { IfDamaged result (IsNodeLinkDamage node NodeView.PREV files.now (F.told f.old)) }
-    ensures untold { ForSome (F.told f.old).files (Agrees files.now) → ForSome (F.told f.old).files (IsListed node) → IfDamaged result (λ _. (F.told f.old).files ≡ None) }
+    ensures untold { UndamagedWithBoth result (F.told f.old) (Agrees files.now) (IsListed node) }
 {
     let other = link(f, files, node, NodeView::PREV)?;
     Ok(unless_same(node, other))
@@ -89,15 +90,15 @@ pub fn before<F: Folder>(f: &mut F, files: &BlockFiles, node: Addr) -> Result<Op
 /// A link that isn't the address of a node that is there is corruption.
 pub fn after<F: Folder>(f: &mut F, files: &BlockFiles, node: Addr) -> Result<Option<Addr>, Fault>
     requires stands { IsTrue (is_node_among files.now node) }
-    ensures node { IfOk result (λ found. ForSome (F.told f.old).files (λ image. Agrees files.now image → (prefix suffix : List ℕ) → HasListAtRest (prefix ++ node ∷ suffix) image → found ≡ first_node_of suffix)) }
-    ensures word { IfOk result (λ found. ForSome (F.told f.old).files (λ image. found ≡ (if link_at image node NodeView.NEXT == node then None else Some (link_at image node NodeView.NEXT)))) }
+    ensures node { OkFor result (F.told f.old) (λ found. ForBothSides files.now node (λ prefix suffix. found ≡ first_node_of suffix)) }
+    ensures word { OkFor result (F.told f.old) (λ found image. found ≡ other_node_at image node NodeView.NEXT) }
     ensures stands { IfOk result (λ found. IfSome found (λ n. IsTrue (is_node_among files.now n))) }
     ensures checked { OnOk result (ForSome (F.told f.old).files (λ image. HasRange image (block (file_selector node)) (place node + NodeView.NEXT) 4)) }
     ensures reads { ReadsOnly F.told F.faults f.old f.new (IfDevice result) }
 
     // Too few bytes, or a word that names no node, which no observable folder gives in whose list the node is.
     ensures damaged { IfDamaged result (IsNodeLinkDamage node NodeView.NEXT files.now (F.told f.old)) }
-    ensures untold { ForSome (F.told f.old).files (Agrees files.now) → ForSome (F.told f.old).files (IsListed node) → IfDamaged result (λ _. (F.told f.old).files ≡ None) }
+    ensures untold { UndamagedWithBoth result (F.told f.old) (Agrees files.now) (IsListed node) }
 {
     let other = link(f, files, node, NodeView::NEXT)?;
     Ok(unless_same(node, other))
@@ -118,12 +119,12 @@ pub(crate) fn end_of_list<F: Folder>(
 ) -> Result<Option<Addr>, Fault>
     requires aligned { at % 4 ≡ 0 }
     requires inside { at < header_length }
-    ensures node { IfOk result (λ node. ForSome (F.told folder.old).files (λ image. node ≡ (if image_word image index at == 0 then None else Some (image_word image index at)))) }
+    ensures node { OkFor result (F.told folder.old) (λ node image. node ≡ word_or_none (image_word image index at)) }
     ensures stands { IfOk result (λ node. IfSome node (λ n. IsTrue (is_node_among files.now n))) }
     ensures checked { OnOk result (ForSome (F.told folder.old).files (λ image. HasRange image index at 4)) }
     ensures reads { ReadsOnly F.told F.faults folder.old folder.new (IfDevice result) }
     ensures damaged { IfDamaged result (IsNodeWordDamage files.now (F.told folder.old) names.Index at) }
-    ensures untold { ForSome (F.told folder.old).files HasWholeIndex → ForSome (F.told folder.old).files (λ image. IsNodeOrNone files.now (image_word image index at)) → IfDamaged result (λ _. (F.told folder.old).files ≡ None) }
+    ensures untold { UndamagedWithBoth result (F.told folder.old) HasWholeIndex (λ image. IsNodeOrNone files.now (image_word image index at)) }
 {
     let found = word(folder, at)?;
     if found == 0 {

@@ -1,4 +1,5 @@
 pub mod Bare
+pub mod Clauses
 pub mod Faults
 pub mod Ordering
 pub mod Outcomes

@@ -1,21 +1,17 @@
 // The nodes and the records of what is kept whose checksum is absent.
-ghost use Rattle.std.specs.Prelude.{◌≡◌, ◌++◌, ℕ, [], ◌∷◌, All, IfOk, None, OnOk, Some, slice_get, true};
+ghost use Rattle.std.specs.Prelude.{◌≡◌, ◌++◌, [], ◌∷◌, All, IfOk, None, OnOk, Some};
 ghost use Rattle.std.specs.BTreeSet.{contains};
-ghost use Rattle.std.specs.List.{filter};
 ghost use Rattle.std.specs.Option.{ForSome};
 ghost use Rattle.std.specs.Ordering.{nat_cmp};
-ghost use Rattle.spec_image.specs.Image.{Image};
 ghost use Rattle.spec_image.specs.Told.{ReadsOnly};
-ghost use Rattle.spec_folder.specs.Found.{kept};
-ghost use Rattle.blk_disk.specs.declared.tables.BlockFiles.{BlockFiles as Files};
-ghost use Rattle.blk_disk.specs.Tables.{Agrees, is_record_among};
+ghost use Rattle.blk_io.specs.Faults.{OkFor};
+ghost use Rattle.blk_disk.specs.Tables.{Agrees};
 ghost use Rattle.blk_audit.specs.Faults.{IfScanDamaged, IfScanDevice, IsRecordDamage};
-ghost use Rattle.blk_audit.specs.ReadLists.{AreListsOf};
 ghost use Rattle.blk_audit.specs.Sealable.{CanBeSealed};
 ghost use Rattle.blk_audit.specs.Walking.{NodesStand, nodes_walked};
-ghost use Rattle.blk_verdict.specs.Kept.{AreShown};
-ghost use Rattle.blk_scan.specs.Bare.{bare_of_kept, is_bare_record, is_kept_bare_node};
+ghost use Rattle.blk_scan.specs.Bare.{bare_of_kept};
 ghost use Rattle.blk_scan.specs.Scans.{AreBare};
+ghost use Rattle.blk_scan.specs.Clauses.{ForKeptIn, ForTablesOf, AreBareNodes, AddsBareNode, AddsBareRecords, AddsBareRecord};
 
 use crate::sets::{entries_of, set_of};
 use crate::telling::nodes_of;
@@ -38,8 +34,8 @@ pub(crate) fn bare_of<F: Folder>(
     records: &[Loaded],
 ) -> Result<Vec<Addr>, ScanFault>
     requires nodes { NodesStand files.now (nodes_walked lists.now.walked) }
-    ensures bare { IfOk result (λ bare. ForSome (F.told folder.old).files (λ image. Agrees files.now image → AreListsOf image lists.now → AreShown image (kept image) records.now → AreBare image bare.items)) }
-    ensures exact { IfOk result (λ bare. ForSome (F.told folder.old).files (λ image. Agrees files.now image → AreListsOf image lists.now → AreShown image (kept image) records.now → bare.items ≡ bare_of_kept image)) }
+    ensures bare { OkFor result (F.told folder.old) (λ bare. ForKeptIn files.now lists.now records.now (λ image. AreBare image bare.items)) }
+    ensures exact { OkFor result (F.told folder.old) (λ bare. ForKeptIn files.now lists.now records.now (λ image. bare.items ≡ bare_of_kept image)) }
     ensures stand { IfOk result (λ bare. All (CanBeSealed files.now) bare.items) }
     ensures reads { ReadsOnly F.told F.faults folder.old folder.new (IfScanDevice result) }
     ensures damaged { IfScanDamaged result (IsRecordDamage files.now (F.told folder.new)) }
@@ -55,8 +51,8 @@ pub(crate) fn bare_of<F: Folder>(
 
 // Those of the walked nodes that are kept and whose checksum is absent.
 fn bare_nodes(alloc: Global, lists: &Lists, kept: &BTreeSet<u32>) -> Result<Vec<Addr>, NoMemory>
-    ensures bare { IfOk result (λ bare. (image : Image) → AreListsOf image lists.now → bare.items ≡ filter (is_kept_bare_node (contains nat_cmp kept.now) image) (nodes_walked lists.now.walked)) }
-    ensures stand { IfOk result (λ bare. (files : Files) → NodesStand files (nodes_walked lists.now.walked) → All (CanBeSealed files) bare.items) }
+    ensures bare { IfOk result (λ bare. AreBareNodes lists.now (contains nat_cmp kept.now) bare.items) }
+    ensures stand { IfOk result (λ bare. ForTablesOf lists.now (λ files. All (CanBeSealed files) bare.items)) }
 {
     let mut bare = Vec::new(alloc);
     for i in 0..lists.walked.count() {
@@ -72,8 +68,8 @@ fn add_node(
     i: usize,
     bare: &mut Vec<Addr>,
 ) -> Result<(), NoMemory>
-    ensures added { OnOk result ((image : Image) (w : ℕ) → AreListsOf image lists.now → slice_get (nodes_walked lists.now.walked) i ≡ Some w → bare.new.items ≡ bare.old.items ++ filter (is_kept_bare_node (contains nat_cmp kept.now) image) (w ∷ [])) }
-    ensures stand { OnOk result ((files : Files) → NodesStand files (nodes_walked lists.now.walked) → All (CanBeSealed files) bare.old.items → All (CanBeSealed files) bare.new.items) }
+    ensures added { OnOk result (AddsBareNode lists.now i (contains nat_cmp kept.now) bare.old.items bare.new.items) }
+    ensures stand { OnOk result (ForTablesOf lists.now (λ files. All (CanBeSealed files) bare.old.items → All (CanBeSealed files) bare.new.items)) }
 {
     let Some(node) = lists.walked.at(i) else {
         return Ok(());
@@ -95,7 +91,7 @@ fn add_records<F: Folder>(
     entries: &[Addr],
     bare: &mut Vec<Addr>,
 ) -> Result<(), ScanFault>
-    ensures added { OnOk result (ForSome (F.told folder.old).files (λ image. AreListsOf image lists.now → All (λ w. is_record_among files.now w ≡ true) entries.now → bare.new.items ≡ bare.old.items ++ filter (is_bare_record image) entries.now)) }
+    ensures added { OnOk result (ForSome (F.told folder.old).files (AddsBareRecords files.now lists.now entries.now bare.old.items bare.new.items)) }
     ensures stand { OnOk result (All (CanBeSealed files.now) bare.old.items → All (CanBeSealed files.now) bare.new.items) }
     ensures reads { ReadsOnly F.told F.faults folder.old folder.new (IfScanDevice result) }
     ensures damaged { IfScanDamaged result (IsRecordDamage files.now (F.told folder.new)) }
@@ -115,7 +111,7 @@ fn add_record<F: Folder>(
     entry: Addr,
     bare: &mut Vec<Addr>,
 ) -> Result<(), ScanFault>
-    ensures added { OnOk result (ForSome (F.told folder.old).files (λ image. AreListsOf image lists.now → is_record_among files.now entry ≡ true → bare.new.items ≡ bare.old.items ++ filter (is_bare_record image) (entry ∷ []))) }
+    ensures added { OnOk result (ForSome (F.told folder.old).files (AddsBareRecord files.now lists.now entry bare.old.items bare.new.items)) }
     ensures stand { OnOk result (All (CanBeSealed files.now) bare.old.items → All (CanBeSealed files.now) bare.new.items) }
     ensures reads { ReadsOnly F.told F.faults folder.old folder.new (IfScanDevice result) }
     ensures damaged { IfScanDamaged result (IsRecordDamage files.now (F.told folder.new)) }

@@ -3,16 +3,13 @@ ghost use Rattle.std.specs.Prelude.{◌≡◌, ◌++◌, ◌+◌, ◌<◌, ◌^�
 ghost use Rattle.std.specs.BTreeSet.{contains};
 ghost use Rattle.std.specs.List.{filter, list_all};
 ghost use Rattle.std.specs.Ordering.{nat_cmp};
-ghost use Rattle.spec_image.specs.Image.{Image};
 ghost use Rattle.spec_format.specs.Headers.{table_length};
-ghost use Rattle.spec_folder.specs.Found as found;
-ghost use Rattle.spec_folder.specs.View.{store_of};
 ghost use Rattle.blk_disk.specs.declared.tables.BlockFiles.{BlockFiles};
 ghost use Rattle.blk_audit.specs.BucketEnds.{AreEnds};
-ghost use Rattle.blk_audit.specs.Chaining.{AreBucketsOf, HasBuckets, RecordsStand, words_reached};
-ghost use Rattle.blk_verdict.specs.Kept.{AreShown};
+ghost use Rattle.blk_audit.specs.Chaining.{HasBuckets, RecordsStand, words_reached};
 ghost use Rattle.blk_scan.specs.Packing.{ArePacked};
 ghost use Rattle.blk_scan.specs.Scans.{AreChainsExact, AreChainsTold, ChainsStandIf};
+ghost use Rattle.blk_scan.specs.Clauses.{ForChainsOf, AddsWhole};
 
 use crate::sets::{entries_of, set_of};
 use blk_addr::{Addr, NoMemory};
@@ -81,7 +78,7 @@ impl KeptChains {
         requires few { length self.old.records.items + length own.now < 2 ^ 32 }
         ensures records { OnOk result (self.new.records.items ≡ self.old.records.items ++ filter (contains nat_cmp kept.now) own.now) }
         ensures ends { OnOk result (self.new.ends.items ≡ self.old.ends.items ++ length self.new.records.items ∷ []) }
-        ensures whole { OnOk result (self.new.whole.items ≡ self.old.whole.items ++ (closed && (length self.new.records.items == length self.old.records.items + length own.now)) ∷ []) }
+        ensures whole { OnOk result (AddsWhole closed (length own.now) self.old self.new) }
     {
         let all = self.records.len() + own.len();
         add_kept(&mut self.records, own, kept)?;
@@ -132,8 +129,8 @@ pub(crate) fn kept_chains(
     records: &[Loaded],
 ) -> Result<Option<KeptChains>, NoMemory>
     requires buckets { HasBuckets reached.now }
-    ensures told { IfOk result (λ chains. (image : Image) → AreBucketsOf (store_of image) reached.now → AreShown image (found.kept image) records.now → AreChainsTold image chains) }
-    ensures exact { IfOk result (λ chains. (image : Image) → AreBucketsOf (store_of image) reached.now → AreShown image (found.kept image) records.now → AreChainsExact image chains) }
+    ensures told { IfOk result (λ chains. ForChainsOf reached.now records.now (λ image. AreChainsTold image chains)) }
+    ensures exact { IfOk result (λ chains. ForChainsOf reached.now records.now (λ image. AreChainsExact image chains)) }
     ensures stand { IfOk result (λ chains. (files : BlockFiles) → RecordsStand files (words_reached reached.now) → ChainsStandIf files chains) }
 {
     let entries = entries_of(alloc, records)?;

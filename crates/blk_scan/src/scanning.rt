@@ -1,12 +1,11 @@
 // The consistency check of a folder.
-ghost use Rattle.std.specs.Prelude.{◌≡◌, ◌≤◌, IfOk, None, Some, length};
+ghost use Rattle.std.specs.Prelude.{◌≡◌, ◌≤◌, IfOk, None, length};
 ghost use Rattle.std.specs.Option.{ForSome};
-ghost use Rattle.spec_image.specs.Image.{Image};
 ghost use Rattle.spec_image.specs.Told.{ReadsOnly};
 ghost use Rattle.spec_format.specs.BlockFiles.{IsDamagedBy, IsUsable, IsWellFormed, first_block_damage};
-ghost use Rattle.spec_format.specs.Headers.{HasWholeIndex, IsUnfinished};
+ghost use Rattle.spec_format.specs.Headers.{IsUnfinished};
 ghost use Rattle.spec_folder.specs.ListView.{most_nodes};
-ghost use Rattle.blk_io.specs.Faults.{damage_of};
+ghost use Rattle.blk_io.specs.Faults.{damage_of, OkFor};
 ghost use Rattle.blk_disk.specs.declared.tables.BlockFiles.{BlockFiles as Files};
 ghost use Rattle.blk_disk.specs.Open.{IsOpen};
 ghost use Rattle.blk_disk.specs.Tables.{Agrees};
@@ -15,8 +14,8 @@ ghost use Rattle.blk_audit.specs.Faults.{IfScanDamaged, IfScanDevice};
 ghost use Rattle.blk_audit.specs.ReadLists.{AreListsAmong};
 ghost use Rattle.blk_scan.specs.Bare.{bare_of_kept};
 ghost use Rattle.blk_scan.specs.Faults.{IsBlocksDamage, IsFolderDamage, IsScanDamage};
-ghost use Rattle.blk_scan.specs.Ordering.{IsToldBy};
 ghost use Rattle.blk_scan.specs.Scans.{AreBare, ChainsStandIf, IsEmptyScan, IsExactScan, IsScanOf, StandAmong};
+ghost use Rattle.blk_scan.specs.Clauses.{ForToldBy, IsFirstBlockDamage};
 
 use crate::bare::bare_of;
 use crate::chains::kept_chains;
@@ -41,9 +40,9 @@ use std::alloc::Global;
 /// `Damaged` with the first check of the index and of the headers of the block files that fails; an observable folder reports
 /// no other failed check. `Device` where the folder failed in this call, and `Memory` when out of memory.
 pub fn scan_folder<F: Folder>(alloc: Global, folder: &mut F) -> Result<Scan, ScanFault>
-    ensures scanned { IfOk result (λ scan. ForSome (F.told folder.old).files (λ image. IsWellFormed image → IsScanOf image scan)) }
-    ensures exact { IfOk result (λ scan. ForSome (F.told folder.old).files (λ image. IsWellFormed image → IsExactScan image scan)) }
-    ensures empty { IfOk result (λ scan. ForSome (F.told folder.old).files (λ image. IsUnfinished image → IsEmptyScan scan)) }
+    ensures scanned { OkFor result (F.told folder.old) (λ scan image. IsWellFormed image → IsScanOf image scan) }
+    ensures exact { OkFor result (F.told folder.old) (λ scan image. IsWellFormed image → IsExactScan image scan) }
+    ensures empty { OkFor result (F.told folder.old) (λ scan image. IsUnfinished image → IsEmptyScan scan) }
     ensures few { IfOk result (λ scan. length scan.walked.items ≤ most_nodes) }
     ensures checked { IfOk result (λ _. ForSome (F.told folder.old).files IsUsable) }
     ensures reads { ReadsOnly F.told F.faults folder.old folder.new (IfScanDevice result) }
@@ -62,12 +61,12 @@ pub fn scan_folder<F: Folder>(alloc: Global, folder: &mut F) -> Result<Scan, Sca
 
 // Reports what a folder holds whose index is initialized.
 fn scan_finished<F: Folder>(alloc: Global, folder: &mut F) -> Result<Scan, ScanFault>
-    ensures scanned { IfOk result (λ scan. ForSome (F.told folder.old).files (λ image. IsScanOf image scan)) }
-    ensures exact { IfOk result (λ scan. ForSome (F.told folder.old).files (λ image. IsExactScan image scan)) }
+    ensures scanned { OkFor result (F.told folder.old) (λ scan image. IsScanOf image scan) }
+    ensures exact { OkFor result (F.told folder.old) (λ scan image. IsExactScan image scan) }
     ensures few { IfOk result (λ scan. length scan.walked.items ≤ most_nodes) }
-    ensures checked { IfOk result (λ _. ForSome (F.told folder.old).files (λ image. first_block_damage image ≡ None)) }
+    ensures checked { OkFor result (F.told folder.old) (λ _ image. first_block_damage image ≡ None) }
     ensures reads { ReadsOnly F.told F.faults folder.old folder.new (IfScanDevice result) }
-    ensures damaged { IfScanDamaged result (λ damage. ForSome (F.told folder.old).files (λ image. HasWholeIndex image → first_block_damage image ≡ Some (damage_of damage))) }
+    ensures damaged { IfScanDamaged result (λ damage. ForSome (F.told folder.old).files (IsFirstBlockDamage damage)) }
     ensures cause { IfScanDamaged result (IsBlocksDamage (F.told folder.old)) }
 {
     let files = BlockFiles::load(folder)?;
@@ -84,8 +83,8 @@ pub fn scan_files<F: Folder>(
     folder: &mut F,
     files: &BlockFiles,
 ) -> Result<Scan, ScanFault>
-    ensures scanned { IfOk result (λ scan. ForSome (F.told folder.old).files (λ image. Agrees files.now image → IsScanOf image scan)) }
-    ensures exact { IfOk result (λ scan. ForSome (F.told folder.old).files (λ image. Agrees files.now image → IsExactScan image scan)) }
+    ensures scanned { OkFor result (F.told folder.old) (λ scan image. Agrees files.now image → IsScanOf image scan) }
+    ensures exact { OkFor result (F.told folder.old) (λ scan image. Agrees files.now image → IsExactScan image scan) }
     ensures stand { IfOk result (StandAmong files.now) }
     ensures few { IfOk result (λ scan. length scan.walked.items ≤ most_nodes) }
     ensures reads { ReadsOnly F.told F.faults folder.old folder.new (IfScanDevice result) }
@@ -114,8 +113,8 @@ fn tell(
 ) -> Result<Scan, NoMemory>
     requires buckets { HasBuckets lists.now.reached }
     requires few { length ordered.records.items ≤ most_nodes }
-    ensures told { IfOk result (λ scan. (image : Image) → IsToldBy image lists.now judged ordered unlisted.now → AreBare image bare.items → IsScanOf image scan) }
-    ensures exact { IfOk result (λ scan. (image : Image) → IsToldBy image lists.now judged ordered unlisted.now → bare.items ≡ bare_of_kept image → IsExactScan image scan) }
+    ensures told { IfOk result (λ scan. ForToldBy lists.now judged ordered unlisted.now (λ image. AreBare image bare.items → IsScanOf image scan)) }
+    ensures exact { IfOk result (λ scan. ForToldBy lists.now judged ordered unlisted.now (λ image. bare.items ≡ bare_of_kept image → IsExactScan image scan)) }
     ensures walked { IfOk result (λ scan. scan.walked.items ≡ ordered.walked.items) }
     ensures bare { IfOk result (λ scan. scan.bare.items ≡ bare.items) }
     ensures chains { IfOk result (λ scan. (files : Files) → AreListsAmong files lists.now → ChainsStandIf files scan.chains) }

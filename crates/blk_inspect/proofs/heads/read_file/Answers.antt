@@ -6,7 +6,7 @@ use Rattle.spec_format.specs.BlockFiles.{is_among}
 use Rattle.blk_disk.specs.Tables.{all_files, blocks_of}
 use Rattle.blk_audit.proofs.Carrying.{converted}
 use Rattle.blk_inspect.specs.Findings.{findings_text, word_said}
-use Rattle.blk_inspect.specs.Texts.{file_words, word_line, words_text}
+use Rattle.blk_inspect.specs.Texts.{file_words, named_word_line, words_text}
 use Rattle.blk_inspect.proofs.HeadWords.{among_linked, file_read, header_there, linked_shown, some_is, unlinked_shown}
 use Rattle.blk_inspect.proofs.heads.read_file.Goals as goal
 
@@ -25,6 +25,6 @@ pub returns-clause-found : goal.returns-clause-found
 unfolding findings_text
 returns-clause-found g c image there agrees =
     let among : is_among (all_files c.args.files.now) c.args.file ≡ true = sym (some_is (is_among (all_files c.args.files.now) c.args.file) (blocks_of c.args.files.now c.args.file) c.max_entries.result c.max_entries.ensures) ∙ c.if-is_none.ensures in
-    sym (flat_map-map (λ word. word_line word.0 word.1) word_said c.in_ok-words.words.items)
+    sym (flat_map-map (λ word. named_word_line word.0 word.1) word_said c.in_ok-words.words.items)
     ∙ ap words_text (c.in_ok-words.ensures ∙ ap (λ (l : List ℕ). file_words (content l)) c.new.ensures ∙ file_read (byte image (Block c.args.file)) c.read_exact.new.out (c.in_ok-read_exact.ensures.bytes image there))
     ∙ sym (linked_shown image c.args.file (sym (among_linked c.args.files.now image c.args.file agrees) ∙ among))

@@ -12,7 +12,7 @@ use Rattle.blk_disk.specs.Tables.{is_record_among}
 use Rattle.blk_audit.proofs.Carrying.{converted}
 use Rattle.blk_audit.proofs.Shown.{names_stand, record_fits}
 use Rattle.blk_inspect.specs.Findings.{findings_text, word_said}
-use Rattle.blk_inspect.specs.Texts.{record_words, word_line, words_text}
+use Rattle.blk_inspect.specs.Texts.{record_words, named_word_line, words_text}
 use Rattle.blk_inspect.proofs.HeadWords.{gave, gave_none, no_record_shown, record_read, record_shown}
 use Rattle.blk_inspect.proofs.heads.read_record.Goals as goal
 
@@ -40,7 +40,7 @@ pub returns-clause-found : goal.returns-clause-found
 unfolding findings_text
 returns-clause-found g c image there agrees =
     let both = gave (is_record_among c.args.files.now c.args.word) c.args.word c.entry.result c.in-Some.entry c.entry.ensures.entry c.in-Some.is in
-    sym (flat_map-map (λ word. word_line word.0 word.1) word_said c.in_ok-words.words.items)
+    sym (flat_map-map (λ word. named_word_line word.0 word.1) word_said c.in_ok-words.words.items)
     ∙ ap words_text (c.in_ok-words.ensures ∙ ap (λ (l : List ℕ). record_words (entry_in (content l) 0)) c.new.ensures
     ∙ record_read image c.in-Some.entry c.read_block.new.out c.in-Some.ensures.kind (c.in_ok-read_block.ensures.bytes image there) ∙ ap (λ (w : ℕ). record_words (entry_at image w)) both.1)
     ∙ sym (record_shown image c.args.word (sym (names_stand c.args.files.now image c.args.word agrees) ∙ both.0))

@@ -10,7 +10,7 @@ use Rattle.blk_disk.specs.declared.tables.BlockFiles.{BlockFiles}
 use Rattle.blk_disk.specs.Tables.{Agrees, is_node_among}
 use Rattle.blk_lru.specs.declared.completing.InFlight.{InFlight}
 use Rattle.blk_lru.specs.Completing.{AreNodes, FindsInFlight}
-use Rattle.blk_lru.specs.Plans.{pending}
+use Rattle.blk_lru.specs.Plans.{writes_left}
 use Rattle.blk_lru.specs.Writes.{meant}
 use Rattle.blk_lru.proofs.Conditions.{told_before, told_now, untold_on}
 use Rattle.blk_lru.specs.Nodes.{list_among}
@@ -55,7 +55,7 @@ finds g c image there agrees = found_in c.args.files.now image (Some c.in-Some.f
 nodes : (g : given.Over) (c : goal.After-pending_of g) → AreNodes c.args.files.now c.in-Some.found
 nodes g c = search rules
 
-good_here : (g : given.Over) (c : goal.After-pending_of g) → Each (Good (λ n. is_node_among c.args.files.now n ≡ true)) (pending c.in-Some.found.node c.in-Some.found.operation)
+good_here : (g : given.Over) (c : goal.After-pending_of g) → Each (Good (λ n. is_node_among c.args.files.now n ≡ true)) (writes_left c.in-Some.found.node c.in-Some.found.operation)
 good_here g c = pending_good c.args.files.now c.in-Some.found.node (nodes g c).0 c.in-Some.found.operation (nodes g c).1
 
 pub returns-clause-plan : goal.returns-clause-plan
@@ -64,12 +64,12 @@ returns-clause-plan g c image there agrees = let f = finds g c image there agree
 pub returns-clause-stand : goal.returns-clause-stand
 returns-clause-stand g c =
     let P : ℕ → Type 0 = λ n. is_node_among c.args.files.now n ≡ true in
-    subst (AreOf P) (sym c.pending_of.ensures) (each_nodes P (pending c.in-Some.found.node c.in-Some.found.operation) (good_here g c))
+    subst (AreOf P) (sym c.pending_of.ensures) (each_nodes P (writes_left c.in-Some.found.node c.in-Some.found.operation) (good_here g c))
 
 pub returns-clause-words : goal.returns-clause-words
 returns-clause-words g c =
     let P : ℕ → Type 0 = λ n. is_node_among c.args.files.now n ≡ true in
-    subst AllWriteWords (sym c.pending_of.ensures) (each_words P (pending c.in-Some.found.node c.in-Some.found.operation) (good_here g c))
+    subst AllWriteWords (sym c.pending_of.ensures) (each_words P (writes_left c.in-Some.found.node c.in-Some.found.operation) (good_here g c))
 
 pub returns-then-transaction-eq0-clause-checked : goal.returns-then-transaction-eq0-clause-checked
 unfolding list_among list_of

@@ -1,0 +1,48 @@
+-- Clauses of calls on the LRU list: what they write, and what they leave of a list that is at rest.
+use Rattle.std.specs.Prelude.{ℕ, ◌≡◌, true, List, Result, ◌∷◌, ◌++◌}
+use Rattle.std.specs.Option.{ForSome}
+use Rattle.spec_image.specs.Image.{Image}
+use Rattle.spec_image.specs.Steps.{TrailStep}
+use Rattle.spec_image.specs.Told.{Applies, Passes, Told}
+use Rattle.spec_folder.specs.ListImages.{HasListAtRest, walked}
+use Rattle.spec_folder.specs.ListPlans.{touch_writes}
+use Rattle.spec_folder.specs.ListSteps.{IsSealed, Seals}
+use Rattle.spec_folder.specs.ListView.{CanBeInserted}
+use Rattle.spec_folder.specs.View.{list_of}
+use Rattle.blk_io.specs.declared.fault.Fault.{Fault}
+use Rattle.blk_io.specs.Faults.{OpaqueIfDamaged}
+use Rattle.blk_disk.specs.declared.tables.BlockFiles.{BlockFiles}
+use Rattle.blk_disk.specs.Tables.{Agrees, is_node_among}
+use Rattle.blk_lru.specs.Nodes.{link_at}
+
+-- exactly the steps that a function gives for the image were made, where the image is observable
+abbrev pub MakesAllOf : (old new : Told) → (steps_on : Image → List TrailStep) → Type 0
+MakesAllOf old new steps_on = ForSome old.files (λ from. Applies old new (steps_on from))
+
+-- the node may be put at the head of the list of the image
+abbrev pub MayGoInFront : (node : ℕ) → Image → Type 0
+MayGoInFront node image = CanBeInserted (list_of image) (walked image) node
+
+-- the link of the node names a valid node, by the table
+abbrev pub LinkStands : BlockFiles → (node at : ℕ) → Image → Type 0
+LinkStands files node at image = is_node_among files (link_at image node at) ≡ true
+
+-- where the table is that of the image, and its list is at rest and has the node, P holds of the nodes before this one and of those after it
+abbrev pub ForBothSides : BlockFiles → (node : ℕ) → ((prefix suffix : List ℕ) → Type 0) → Image → Type 0
+ForBothSides files node P image = Agrees files image → (prefix suffix : List ℕ) → HasListAtRest (prefix ++ node ∷ suffix) image → P prefix suffix
+
+-- where the node is in the list before the call, the list at rest after it has these nodes, given by those before the node and those after it
+abbrev pub LeavesListed : (node : ℕ) → (old new : Told) → (nodes : (prefix suffix : List ℕ) → List ℕ) → Type 0
+LeavesListed node old new nodes = ForSome old.files (λ from. (prefix suffix : List ℕ) → HasListAtRest (prefix ++ node ∷ suffix) from → ForSome new.files (HasListAtRest (nodes prefix suffix)))
+
+-- where the node is in the list before the call, P holds before each step and after the last, of the nodes before this one and those after it
+abbrev pub StopsListed : (node : ℕ) → (old new : Told) → ((prefix suffix : List ℕ) → (from image : Image) → Type 0) → Type 0
+StopsListed node old new P = ForSome old.files (λ from. (prefix suffix : List ℕ) → HasListAtRest (prefix ++ node ∷ suffix) from → Passes old new (P prefix suffix from))
+
+-- the writes of an access were made to the list, each node that was written has its checksum again, and so has the node itself
+abbrev pub SealsAccess : (node : ℕ) → (from image : Image) → Type 0
+SealsAccess node from image = Seals from (touch_writes node (list_of from)) image × IsSealed image node
+
+-- where P holds of an observable folder, and Q does, the answer is no failed check
+abbrev pub UndamagedWithBoth : {A : Type 0} → Result A Fault → Told → (P Q : Image → Type 0) → Type 0
+UndamagedWithBoth result told P Q = ForSome told.files P → ForSome told.files Q → OpaqueIfDamaged result told
