@@ -2,7 +2,7 @@
 ghost use Rattle.std.specs.Prelude.{◌≡◌, ◌≢◌, ◌≤◌, ◌<◌, ◌+◌, ◌-◌, ◌/◌, ◌%◌, None, IfOk, OnOk, IsTrue, length};
 ghost use Rattle.std.specs.List.{All};
 ghost use Rattle.std.specs.Option.{ForSome};
-ghost use Rattle.spec_image.specs.Told.{Stays, MayWrite, ReadsOnly, Leaves, Stops};
+ghost use Rattle.spec_image.specs.Told.{Stays, MayWrite, ReadsOnly, LeavesFrom, StopsFrom};
 ghost use Rattle.spec_format.specs.Address.{block_count, external, file_selector, is_address, kind_of, rankings};
 ghost use Rattle.spec_format.specs.BlockFiles.{most_files};
 ghost use Rattle.spec_format.specs.Maps.{group_size};
@@ -76,13 +76,13 @@ fn new_room<F: Folder>(
     ensures whole { IfOk result (λ place. place.start % 4 ≡ 0) }
     ensures grown { IfOk result (IsExtendedIfThere files.old files.new) }
     ensures fresh { OkLeaves result (F.told folder.old) (F.told folder.new) (λ from. IsFreshIfAdded files.old) }
-    ensures marks { OnOk result (Leaves (F.told folder.old) (F.told folder.new) (KeepsMarks files.old)) }
-    ensures hints { OnOk result (Leaves (F.told folder.old) (F.told folder.new) (KeepsHintsOf files.old)) }
+    ensures marks { OnOk result (LeavesFrom (F.told folder.old) (F.told folder.new) (KeepsMarks files.old)) }
+    ensures hints { OnOk result (LeavesFrom (F.told folder.old) (F.told folder.new) (KeepsHintsOf files.old)) }
     ensures all { OnOk result (KeepsAll files.old files.new) }
     ensures links { IfOk result (λ place. KeepsLinks files.old files.new place.file) }
     ensures standing { KeepsStanding files.old files.new }
     ensures agrees { OnOk result (ForSome (F.told folder.new).files (Agrees files.new)) }
-    ensures stops { Stops (F.told folder.old) (F.told folder.new) (MakesRoomInProgress files.old (kind_number kind)) }
+    ensures stops { StopsFrom (F.told folder.old) (F.told folder.new) (MakesRoomInProgress files.old (kind_number kind)) }
     ensures writes { MayWrite F.told F.faults folder.old folder.new (IfDevice result) }
     ensures cause { IfDamaged result (IsKindFull files.old (kind_number kind) (F.told folder.old)) }
     ensures sixty { IfDamaged result (λ _. IsFullKind files.old (kind_number kind)) }

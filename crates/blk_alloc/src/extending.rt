@@ -1,7 +1,7 @@
 // Files are extended or added, to get space for blocks.
 ghost use Rattle.std.specs.Prelude.{◌≡◌, ◌≢◌, ◌*◌, ◌/◌, ◌≤◌, ◌<◌, [], length, IfOk, OnOk, OnErr, IsTrue};
 ghost use Rattle.std.specs.Option.{ForSome};
-ghost use Rattle.spec_image.specs.Told.{MayWrite, Leaves, LeavesWhere, Stops};
+ghost use Rattle.spec_image.specs.Told.{MayWrite, LeavesFrom, LeavesWhere, StopsFrom};
 ghost use Rattle.spec_format.specs.BlockFiles.{is_among, most_blocks, most_files};
 ghost use Rattle.spec_format.specs.Address.{external};
 ghost use Rattle.spec_format.specs.Growth.{StaysWholeOutside};
@@ -39,15 +39,15 @@ pub(crate) fn grow_room<F: Folder>(
     ensures all { OnOk result (KeepsAll files.old files.new) }
     ensures links { OnOk result (KeepsLists files.old files.new) }
     ensures standing { KeepsStanding files.old files.new }
-    ensures marks { OnOk result (Leaves (F.told folder.old) (F.told folder.new) (KeepsMarks files.old)) }
+    ensures marks { OnOk result (LeavesFrom (F.told folder.old) (F.told folder.new) (KeepsMarks files.old)) }
     ensures markable { OkLeavesWhere result (F.told folder.old) (F.told folder.new) (λ from. HasCounters from file) (λ _ place image. CanBeMarked image place) }
-    ensures raised { OnOk result (Leaves (F.told folder.old) (F.told folder.new) (RaisesFreeGroups files.old file)) }
+    ensures raised { OnOk result (LeavesFrom (F.told folder.old) (F.told folder.new) (RaisesFreeGroups files.old file)) }
     ensures blocks { OnOk result (blocks_of files.new file ≡ grown (blocks_of files.old file)) }
-    ensures hints { OnOk result (Leaves (F.told folder.old) (F.told folder.new) KeepsHints) }
+    ensures hints { OnOk result (LeavesFrom (F.told folder.old) (F.told folder.new) KeepsHints) }
     ensures keeps { OnOk result (LeavesWhere (F.told folder.old) (F.told folder.new) (λ from. HasCounters from file) (KeepsFiles files.old)) }
     ensures agrees { OnOk result (ForSome (F.told folder.new).files (Agrees files.new)) }
     ensures same { OnErr result (files.new ≡ files.old) }
-    ensures stops { Stops (F.told folder.old) (F.told folder.new) (StaysWholeOutside (growth_of file)) }
+    ensures stops { StopsFrom (F.told folder.old) (F.told folder.new) (StaysWholeOutside (growth_of file)) }
     ensures writes { MayWrite F.told F.faults folder.old folder.new (OnErr result) }
 {
     let groups = blocks_in(files, file) / GROUP;
@@ -72,18 +72,18 @@ pub(crate) fn add_room<F: Folder>(
     ensures all { OnOk result (KeepsAll files.old files.new) }
     ensures links { OnOk result (KeepsLinks files.old files.new (free_number files.old)) }
     ensures standing { KeepsStanding files.old files.new }
-    ensures marks { OnOk result (Leaves (F.told folder.old) (F.told folder.new) (KeepsMarks files.old)) }
-    ensures fresh { OnOk result (Leaves (F.told folder.old) (F.told folder.new) (λ from image. AreAllocations image (free_number files.old) [])) }
-    ensures raised { OnOk result (Leaves (F.told folder.old) (F.told folder.new) (λ from. CountsFreeGroups (free_number files.old) 256)) }
+    ensures marks { OnOk result (LeavesFrom (F.told folder.old) (F.told folder.new) (KeepsMarks files.old)) }
+    ensures fresh { OnOk result (LeavesFrom (F.told folder.old) (F.told folder.new) (λ from image. AreAllocations image (free_number files.old) [])) }
+    ensures raised { OnOk result (LeavesFrom (F.told folder.old) (F.told folder.new) (λ from. CountsFreeGroups (free_number files.old) 256)) }
     ensures blocks { OnOk result (blocks_of files.new (free_number files.old) ≡ 1024) }
-    ensures kept_hints { OnOk result (Leaves (F.told folder.old) (F.told folder.new) (KeepsHintsOf files.old)) }
-    ensures empty { OnOk result (Leaves (F.told folder.old) (F.told folder.new) (λ from image. EmptyAgrees image (free_number files.old))) }
-    ensures hints { OnOk result (Leaves (F.told folder.old) (F.told folder.new) (λ from image. HasNoHints image (free_number files.old))) }
+    ensures kept_hints { OnOk result (LeavesFrom (F.told folder.old) (F.told folder.new) (KeepsHintsOf files.old)) }
+    ensures empty { OnOk result (LeavesFrom (F.told folder.old) (F.told folder.new) (λ from image. EmptyAgrees image (free_number files.old))) }
+    ensures hints { OnOk result (LeavesFrom (F.told folder.old) (F.told folder.new) (λ from image. HasNoHints image (free_number files.old))) }
     ensures least { OnOk result (IsLeastFileNumber files.old (free_number files.old)) }
     ensures markable { OkLeaves result (F.told folder.old) (F.told folder.new) (λ _ place image. CanBeMarked image place) }
-    ensures keeps { OnOk result (Leaves (F.told folder.old) (F.told folder.new) (KeepsFiles files.old)) }
+    ensures keeps { OnOk result (LeavesFrom (F.told folder.old) (F.told folder.new) (KeepsFiles files.old)) }
     ensures agrees { OnOk result (ForSome (F.told folder.new).files (Agrees files.new)) }
-    ensures stops { Stops (F.told folder.old) (F.told folder.new) (StaysWholeOutside (new_room_of files.old (kind_number kind))) }
+    ensures stops { StopsFrom (F.told folder.old) (F.told folder.new) (StaysWholeOutside (new_room_of files.old (kind_number kind))) }
     ensures writes { MayWrite F.told F.faults folder.old folder.new (OnErr result) }
 {
     let file = files.add_file(folder, kind)?;

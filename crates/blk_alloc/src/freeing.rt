@@ -1,7 +1,7 @@
 // Blocks are freed.
 ghost use Rattle.std.specs.Prelude.{false, IsTrue, OnOk};
 ghost use Rattle.std.specs.Option.{ForSome};
-ghost use Rattle.spec_image.specs.Told.{Stays, MayWrite, Leaves};
+ghost use Rattle.spec_image.specs.Told.{Stays, MayWrite, LeavesFrom};
 ghost use Rattle.spec_format.specs.Address.{block_count, file_selector, first_block};
 ghost use Rattle.blk_io.specs.Faults.{IfDamaged, IfDevice, UndamagedWhere};
 ghost use Rattle.blk_disk.specs.Tables.{Agrees, stands_among};
@@ -30,7 +30,7 @@ pub fn free<F: Folder>(f: &mut F, files: &BlockFiles, addr: Addr) -> Result<(), 
     ensures stops { StopsOrEnds (F.told f.old) (F.told f.new) (FreesInProgress addr) (FreesOrStops addr) }
 
     // Whatever it answers, no hint has changed.
-    ensures hints { Leaves (F.told f.old) (F.told f.new) KeepsHints }
+    ensures hints { LeavesFrom (F.told f.old) (F.told f.new) KeepsHints }
 
     ensures cause { IfDamaged result (IsCause (F.told f.old) (file_selector addr) (first_block addr) (block_count addr) false) }
     ensures unwritten { IfDamaged result (λ _. Stays (F.told f.old) (F.told f.new)) }

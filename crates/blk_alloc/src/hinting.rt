@@ -3,7 +3,7 @@ ghost use Rattle.std.specs.Prelude.{◌≤◌, ◌<◌, OnOk, OnErr};
 ghost use Rattle.std.specs.Option.{ForSome};
 ghost use Rattle.spec_image.specs.Footprint.{SameOutside, one_word};
 ghost use Rattle.spec_image.specs.Image.{Block as block, length_of};
-ghost use Rattle.spec_image.specs.Told.{MayWrite, Leaves, Stops};
+ghost use Rattle.spec_image.specs.Told.{MayWrite, LeavesFrom, StopsFrom};
 ghost use Rattle.blk_alloc.specs.Fitting.{hint_place};
 ghost use Rattle.blk_alloc.specs.Marking.{HasHint};
 
@@ -19,8 +19,8 @@ pub(crate) fn set_hint<F: Folder>(
 ) -> Result<(), Failed>
     requires small { i < 4 }
     requires header { ForSome (F.told folder.old).files (λ image. 8192 ≤ length_of image (block file)) }
-    ensures set { OnOk result (Leaves (F.told folder.old) (F.told folder.new) (HasHint file i group)) }
-    ensures stops { Stops (F.told folder.old) (F.told folder.new) (SameOutside (one_word (block file) (hint_place i))) }
+    ensures set { OnOk result (LeavesFrom (F.told folder.old) (F.told folder.new) (HasHint file i group)) }
+    ensures stops { StopsFrom (F.told folder.old) (F.told folder.new) (SameOutside (one_word (block file) (hint_place i))) }
     ensures writes { MayWrite F.told F.faults folder.old folder.new (OnErr result) }
 {
     write_word(folder, FileId::Block(file), HINTS + 4 * u64::from(i), group)

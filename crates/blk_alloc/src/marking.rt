@@ -1,7 +1,7 @@
 // Blocks of a file are marked as used.
 ghost use Rattle.std.specs.Prelude.{◌≡◌, ◌≢◌, ◌<◌, ◌/◌, true, IfOk, OnOk, IsTrue};
 ghost use Rattle.std.specs.Option.{ForSome};
-ghost use Rattle.spec_image.specs.Told.{MayWrite, Leaves};
+ghost use Rattle.spec_image.specs.Told.{MayWrite, LeavesFrom};
 ghost use Rattle.spec_format.specs.Address as address;
 ghost use Rattle.spec_format.specs.Address.{external, rankings};
 ghost use Rattle.blk_addr.specs.Kind.{kind_number};
@@ -37,8 +37,8 @@ pub(crate) fn mark<F: Folder>(
     ensures word { IfOk result (λ addr. addr ≡ address.block_word (kind_number kind) place.file place.start place.count) }
     ensures stands { IfOk result (λ addr. IsTrue (stands_among files.new addr)) }
     ensures keeps { KeepsStanding files.old files.new }
-    ensures counted { OnOk result (Leaves (F.told folder.old) (F.told folder.new) (CountsUsed place.file place.start)) }
-    ensures hints { OnOk result (Leaves (F.told folder.old) (F.told folder.new) KeepsHints) }
+    ensures counted { OnOk result (LeavesFrom (F.told folder.old) (F.told folder.new) (CountsUsed place.file place.start)) }
+    ensures hints { OnOk result (LeavesFrom (F.told folder.old) (F.told folder.new) KeepsHints) }
     ensures used { OkLeavesWhere result (F.told folder.old) (F.told folder.new) (λ from. CanBeMarked from place) (MarksUsed files.old) }
     ensures agrees { ForSome (F.told folder.new).files (Agrees files.new) }
     ensures links { OnOk result (KeepsLists files.old files.new) }

@@ -2,7 +2,7 @@
 ghost use Rattle.std.specs.Prelude.{◌≡◌, ◌+◌, ◌%◌, ◌<◌, ◌≤◌, ◌^◌, length, OnOk, OnErr};
 ghost use Rattle.std.specs.Option.{ForSome};
 ghost use Rattle.spec_image.specs.Image.{Block as block, HasRange, length_of};
-ghost use Rattle.spec_image.specs.Told.{Stays, MayWrite, Leaves};
+ghost use Rattle.spec_image.specs.Told.{Stays, MayWrite, LeavesFrom};
 ghost use Rattle.spec_format.specs.Address.{header_size};
 ghost use Rattle.spec_format.specs.Headers.{block_fields_length};
 ghost use Rattle.blk_alloc.specs.Mending.{IsPrefixWritten, KeepsLength, IsOldOrWord};
@@ -28,7 +28,7 @@ pub(crate) fn mend_word<F: Folder>(
     ensures done { OnOk result (WhereWord (F.told folder.old) (F.told folder.new) file at old.now (EndsWithWord file at new.now)) }
     ensures stops { WhereWord (F.told folder.old) (F.told folder.new) file at old.now (OnlyNeeded (IsOldOrWord file at new.now)) }
     ensures same { old.now ≡ new.now → Stays (F.told folder.old) (F.told folder.new) }
-    ensures long { Leaves (F.told folder.old) (F.told folder.new) (KeepsLength (block file)) }
+    ensures long { LeavesFrom (F.told folder.old) (F.told folder.new) (KeepsLength (block file)) }
     ensures writes { MayWrite F.told F.faults folder.old folder.new (OnErr result) }
 {
     if *old == *new {
@@ -52,7 +52,7 @@ pub(crate) fn mend<F: Folder>(
     requires inside { ForSome (F.told folder.old).files (λ image. HasRange image (block file) at (length new.now)) }
     ensures done { OnOk result (WhereBytes (F.told folder.old) (F.told folder.new) file at old.now (EndsWithBytes file at new.now)) }
     ensures stops { WhereBytes (F.told folder.old) (F.told folder.new) file at old.now (OnlyNeeded (IsPrefixWritten (block file) at new.now)) }
-    ensures long { Leaves (F.told folder.old) (F.told folder.new) (KeepsLength (block file)) }
+    ensures long { LeavesFrom (F.told folder.old) (F.told folder.new) (KeepsLength (block file)) }
     ensures writes { MayWrite F.told F.faults folder.old folder.new (OnErr result) }
 {
     for k in 0..new.len() / 4 {
@@ -75,7 +75,7 @@ pub(crate) fn mend_counters<F: Folder>(
     requires header { ForSome (F.told folder.old).files (λ image. header_size ≤ length_of image (block file)) }
     ensures done { OnOk result (WhereFields (F.told folder.old) (F.told folder.new) file fields.now (EndsWithCounters file allocations empty.now)) }
     ensures stops { WhereFields (F.told folder.old) (F.told folder.new) file fields.now (OnlyNeeded (IsCounting file allocations empty.now)) }
-    ensures long { Leaves (F.told folder.old) (F.told folder.new) (KeepsLength (block file)) }
+    ensures long { LeavesFrom (F.told folder.old) (F.told folder.new) (KeepsLength (block file)) }
     ensures writes { MayWrite F.told F.faults folder.old folder.new (OnErr result) }
 {
     let number = &fields[ALLOCATIONS..ALLOCATIONS + 4];

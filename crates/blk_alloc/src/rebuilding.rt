@@ -2,7 +2,7 @@
 ghost use Rattle.std.specs.Prelude.{◌≡◌, ℕ, ◌+◌, ◌/◌, ◌<◌, ◌≤◌, [], ◌∷◌, true, max, length, OnOk, OnErr, IsTrue};
 ghost use Rattle.std.specs.Option.{ForSome};
 ghost use Rattle.spec_image.specs.Image.{Block as block, length_of};
-ghost use Rattle.spec_image.specs.Told.{Stays, MayWrite, Leaves};
+ghost use Rattle.spec_image.specs.Told.{Stays, MayWrite, LeavesFrom};
 ghost use Rattle.spec_format.specs.Address.{header_size};
 ghost use Rattle.spec_format.specs.BlockFiles.{is_among};
 ghost use Rattle.spec_format.specs.Headers.{block_fields_length};
@@ -41,7 +41,7 @@ fn mend_counts<F: Folder>(
     requires header { ForSome (F.told folder.old).files (λ image. header_size ≤ length_of image (block file)) }
     ensures done { OnOk result (WhereCounts (F.told folder.old) (F.told folder.new) file groups map.now fields.now (EndsMarked claims.now file)) }
     ensures stops { WhereCounts (F.told folder.old) (F.told folder.new) file groups map.now fields.now (OnlyNeeded (IsMending claims.now file)) }
-    ensures long { Leaves (F.told folder.old) (F.told folder.new) (KeepsLength (block file)) }
+    ensures long { LeavesFrom (F.told folder.old) (F.told folder.new) (KeepsLength (block file)) }
     ensures writes { MayWrite F.told F.faults folder.old folder.new (OnErr result) }
 {
     let mut bytes = [0u8; MAP_LEN];
@@ -176,7 +176,7 @@ pub fn rebuild<F: Folder>(f: &mut F, files: &mut BlockFiles, claims: &Claims) ->
     ensures keeps { KeepsStanding files.old files.new }
 
     ensures rebuilt { OnOk result (ForSome (F.told f.new).files (λ image. (n : ℕ) → is_among (all_files files.old) n ≡ true → IsRebuilt claims.now image n)) }
-    ensures allocations { OnOk result (Leaves (F.told f.old) (F.told f.new) (AreItsAllocations claims.now (all_files files.old))) }
+    ensures allocations { OnOk result (LeavesFrom (F.told f.old) (F.told f.new) (AreItsAllocations claims.now (all_files files.old))) }
     ensures fitted { OnOk result (AreFitted files.old files.new) }
     ensures agrees { ForSome (F.told f.new).files (Agrees files.new) }
 

@@ -1,7 +1,7 @@
 // Blocks that were found are taken.
 ghost use Rattle.std.specs.Prelude.{◌≡◌, ◌≢◌, ◌<◌, ◌/◌, true, IfOk, OnOk, IsTrue};
 ghost use Rattle.std.specs.Option.{ForSome};
-ghost use Rattle.spec_image.specs.Told.{MayWrite, Leaves};
+ghost use Rattle.spec_image.specs.Told.{MayWrite, LeavesFrom};
 ghost use Rattle.spec_format.specs.Address as address;
 ghost use Rattle.spec_format.specs.Address.{external, rankings};
 ghost use Rattle.spec_format.specs.Maps.{group_size};
@@ -38,8 +38,8 @@ pub(crate) fn take<F: Folder>(
     ensures word { IfOk result (λ addr. addr ≡ address.block_word (kind_number kind) found.place.file found.place.start found.place.count) }
     ensures stands { IfOk result (λ addr. IsTrue (stands_among files.new addr)) }
     ensures keeps { KeepsStanding files.old files.new }
-    ensures counted { OnOk result (Leaves (F.told folder.old) (F.told folder.new) (CountsUsed found.place.file found.place.start)) }
-    ensures hint { OnOk result (Leaves (F.told folder.old) (F.told folder.new) (HasHintAmong found.place.file found.i (found.place.start / group_size))) }
+    ensures counted { OnOk result (LeavesFrom (F.told folder.old) (F.told folder.new) (CountsUsed found.place.file found.place.start)) }
+    ensures hint { OnOk result (LeavesFrom (F.told folder.old) (F.told folder.new) (HasHintAmong found.place.file found.i (found.place.start / group_size))) }
     ensures used { OkLeavesWhere result (F.told folder.old) (F.told folder.new) (λ from. CanBeMarked from found.place) (MarksUsed files.old) }
     ensures agrees { ForSome (F.told folder.new).files (Agrees files.new) }
     ensures links { OnOk result (KeepsLists files.old files.new) }

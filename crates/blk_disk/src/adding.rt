@@ -2,7 +2,7 @@
 ghost use Rattle.std.specs.Prelude.{◌≡◌, ◌≢◌, ◌+◌, ◌<◌, ◌≤◌, length, IfOk, OnOk, OnErr};
 ghost use Rattle.std.specs.Option.{ForSome};
 ghost use Rattle.spec_image.specs.Image.{HasRange, Block as block};
-ghost use Rattle.spec_image.specs.Told.{Applies, AppliesPrefix, Rises, Stops};
+ghost use Rattle.spec_image.specs.Told.{Applies, AppliesPrefix, Rises, StopsFrom};
 ghost use Rattle.spec_format.specs.Address.{external, header_size};
 ghost use Rattle.spec_format.specs.BlockFiles.{most_files};
 ghost use Rattle.blk_addr.specs.Kind.{kind_number};
@@ -41,7 +41,7 @@ impl BlockFiles {
 
         // At each word nothing else has changed, the files have grown at most, and the
         // headers are kept.
-        ensures stops { Stops (F.told f.old) (F.told f.new) (StaysWholeOutside (addition_of self.old (kind_number kind))) }
+        ensures stops { StopsFrom (F.told f.old) (F.told f.new) (StaysWholeOutside (addition_of self.old (kind_number kind))) }
 
         ensures later { F.faults f.old ≤ F.faults f.new }
         ensures failed { OnErr result (Rises (F.faults f.old) (F.faults f.new)) }

@@ -4,7 +4,7 @@ ghost use Rattle.std.specs.Option.{ForSome};
 ghost use Rattle.spec_image.specs.Image.{Block as block};
 ghost use Rattle.spec_image.specs.Steps.{words};
 ghost use Rattle.spec_image.specs.Footprint.{SameOutside};
-ghost use Rattle.spec_image.specs.Told.{Applies, AppliesPrefix, Rises, ReadsOnly, Stops};
+ghost use Rattle.spec_image.specs.Told.{Applies, AppliesPrefix, Rises, ReadsOnly, StopsFrom};
 ghost use Rattle.spec_format.specs.Address.{file_selector, place, byte_size};
 ghost use Rattle.blk_io.specs.Faults.{IfDamaged, IfDevice, IsShort, UndamagedWhere};
 ghost use Rattle.blk_disk.specs.Tables.{Agrees, stands_among};
@@ -19,7 +19,7 @@ use blk_io::{Failed, Fault, FileId, Folder, read_exact};
 impl BlockFiles {
     /// Reads bytes of the blocks of an address, from a place among them on.
     ///
-    /// Too few bytes are corruption: the error has the place of the read, and finds how many bytes there were. `Device`
+    /// Too few bytes are corruption: the error has the place of the read, and, as its word, how many bytes there were. `Device`
     /// comes only where the folder failed in this call.
     pub fn read_block<F: Folder>(
         &self,
@@ -58,7 +58,7 @@ impl BlockFiles {
         ensures prefix { AppliesPrefix (F.told f.old) (F.told f.new) (words (block (file_selector addr)) (place addr + at) bytes.now) }
 
         // At each word nothing else has changed.
-        ensures outside { Stops (F.told f.old) (F.told f.new) (SameOutside (blocks_range addr at (length bytes.now))) }
+        ensures outside { StopsFrom (F.told f.old) (F.told f.new) (SameOutside (blocks_range addr at (length bytes.now))) }
         ensures agrees { ForSome (F.told f.new).files (Agrees self.now) }
 
         ensures later { F.faults f.old ≤ F.faults f.new }

@@ -2,7 +2,7 @@
 ghost use Rattle.std.specs.Prelude.{◌≡◌, ◌+◌, ◌*◌, ◌<◌, ◌≤◌, IsTrue, max, None, OnOk, OnErr};
 ghost use Rattle.std.specs.Option.{ForSome};
 ghost use Rattle.spec_image.specs.Image.{HasRange, Block as block};
-ghost use Rattle.spec_image.specs.Told.{Applies, AppliesPrefix, MakesPartOf, Rises, Stays, Stops};
+ghost use Rattle.spec_image.specs.Told.{Applies, AppliesPrefix, MakesPartOf, Rises, Stays, StopsFrom};
 ghost use Rattle.spec_format.specs.Address.{header_size};
 ghost use Rattle.spec_format.specs.BlockFiles.{is_among, most_blocks, kind_among};
 ghost use Rattle.blk_disk.specs.Tables.{Agrees, all_files, blocks_of, files_of};
@@ -38,7 +38,7 @@ impl BlockFiles {
 
         // At each word nothing else has changed, the files have grown at most, and the
         // headers are kept.
-        ensures stops { Stops (F.told f.old) (F.told f.new) (StaysWholeOutside (growth_of file)) }
+        ensures stops { StopsFrom (F.told f.old) (F.told f.new) (StaysWholeOutside (growth_of file)) }
 
         ensures later { F.faults f.old ≤ F.faults f.new }
         ensures failed { OnErr result (Rises (F.faults f.old) (F.faults f.new)) }

@@ -18,7 +18,7 @@ use std::sync::ledger::Ledger;
 impl BlockFiles {
     /// Reads a word of the map of a linked file, which has the marks of 32 blocks, its low byte first, and counts one step.
     ///
-    /// Too few bytes are corruption: the error has the place of the word, and finds how many bytes there were. `Device`
+    /// Too few bytes are corruption: the error has the place of the word, and, as its word, how many bytes there were. `Device`
     /// comes only where the folder failed in this call.
     pub fn map_word<F: Folder, L: Ledger>(
         &self,

@@ -2,7 +2,7 @@
 ghost use Rattle.std.specs.Prelude.{[], ◌≡◌, ◌+◌, ◌^◌, ◌<◌, ◌≤◌, IsTrue, OnErr, OnOk, length};
 ghost use Rattle.std.specs.Option.{ForSome};
 ghost use Rattle.spec_image.specs.Steps.{with_words};
-ghost use Rattle.spec_image.specs.Told.{Applies, AppliesPrefix, MakesPartOf, Rises, Stays, ReadsOnly, Leaves, LeavesWhere, StopsWhere};
+ghost use Rattle.spec_image.specs.Told.{Applies, AppliesPrefix, MakesPartOf, Rises, Stays, ReadsOnly, LeavesFrom, LeavesWhere, StopsWhere};
 ghost use Rattle.spec_format.specs.Address.{place};
 ghost use Rattle.spec_format.specs.Records as records;
 ghost use Rattle.blk_addr.specs.Kind.{kind_number};
@@ -45,7 +45,7 @@ impl BlockFiles {
         requires changes { AreChanges (seal_place addr) changes.now }
         requires agrees { ForSome (F.told f.old).files (Agrees self.now) }
         ensures checked { OnOk result (ForSome (F.told f.old).files (RecordChecks addr)) }
-        ensures updated { OnOk result (Leaves (F.told f.old) (F.told f.new) (UpdatesRecord addr changes.now)) }
+        ensures updated { OnOk result (LeavesFrom (F.told f.old) (F.told f.new) (UpdatesRecord addr changes.now)) }
         ensures checks { ForSome (F.told f.old).files (RecordChecks addr) → ForSome (F.told f.new).files (RecordChecks addr) }
         ensures agrees { ForSome (F.told f.new).files (Agrees self.now) }
         ensures steps { OnOk result (MakesStepsOf (F.told f.old) (F.told f.new) (λ from. sealed_steps from addr changes.now)) }
@@ -140,7 +140,7 @@ impl BlockFiles {
         requires begins { BeginsWithRecord addr }
         requires agrees { ForSome (F.told folder.old).files (Agrees self.now) }
         ensures checked { OnOk result (ForSome (F.told folder.old).files (RecordChecks addr)) }
-        ensures updated { OnOk result (Leaves (F.told folder.old) (F.told folder.new) (UpdatesRecord addr [])) }
+        ensures updated { OnOk result (LeavesFrom (F.told folder.old) (F.told folder.new) (UpdatesRecord addr [])) }
         ensures agrees { ForSome (F.told folder.new).files (Agrees self.now) }
         ensures steps { OnOk result (MakesStepsOf (F.told folder.old) (F.told folder.new) (λ from. seal_steps from addr)) }
         ensures prefix { MakesPartOf (F.told folder.old) (F.told folder.new) (λ from. seal_steps from addr) }

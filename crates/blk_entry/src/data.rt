@@ -2,7 +2,7 @@
 ghost use Rattle.std.specs.Prelude.{◌≡◌, ◌+◌, ◌≤◌, ◌==◌, None, OnErr, OnOk, length};
 ghost use Rattle.std.specs.Option.{ForSome};
 ghost use Rattle.spec_image.specs.Footprint.{SameOutside};
-ghost use Rattle.spec_image.specs.Told.{Applies, AppliesPrefix, Rises, ReadsOnly, Stops};
+ghost use Rattle.spec_image.specs.Told.{Applies, AppliesPrefix, Rises, ReadsOnly, StopsFrom};
 ghost use Rattle.spec_format.specs.Address.{kind_of};
 ghost use Rattle.blk_addr.specs.Kind.{kind_number};
 ghost use Rattle.blk_io.specs.Faults.{IfDamaged, IfDevice};
@@ -18,7 +18,7 @@ use blk_io::{Failed, Fault, Folder};
 /// Reads bytes of the data of an address, from a place in it on, into the whole of `out`: of its blocks, or
 /// of its external file.
 ///
-/// One folder call reads them. Too few bytes are corruption: the error has the place of the read, and finds how many
+/// One folder call reads them. Too few bytes are corruption: the error has the place of the read, and, as its word, how many
 /// bytes there were.
 pub fn read_data<F: Folder>(
     folder: &mut F,
@@ -84,7 +84,7 @@ pub fn write_data<F: Folder>(
     ensures prefix { AppliesPrefix (F.told folder.old) (F.told folder.new) (data_steps addr at bytes.now) }
 
     // At each word no other byte has changed.
-    ensures outside { Stops (F.told folder.old) (F.told folder.new) (SameOutside (data_range addr at (length bytes.now))) }
+    ensures outside { StopsFrom (F.told folder.old) (F.told folder.new) (SameOutside (data_range addr at (length bytes.now))) }
 
     ensures later { F.faults folder.old ≤ F.faults folder.new }
     ensures failed { OnErr result (Rises (F.faults folder.old) (F.faults folder.new)) }

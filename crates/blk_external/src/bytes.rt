@@ -4,7 +4,7 @@ ghost use Rattle.std.specs.Option.{ForSome};
 ghost use Rattle.spec_image.specs.Bytes.{range_at};
 ghost use Rattle.spec_image.specs.Image.{HasRange, byte};
 ghost use Rattle.spec_image.specs.Steps.{SetLength, Delete, words};
-ghost use Rattle.spec_image.specs.Told.{Applies, AppliesPrefix, Stays, Rises, ReadsOnly, Leaves, Stops};
+ghost use Rattle.spec_image.specs.Told.{Applies, AppliesPrefix, Stays, Rises, ReadsOnly, LeavesFrom, StopsFrom};
 ghost use Rattle.spec_image.specs.Footprint.{range, whole};
 ghost use Rattle.spec_format.specs.Address.{kind_of, external, external_number};
 ghost use Rattle.blk_io.specs.FileNames.{file_of};
@@ -18,7 +18,7 @@ use blk_io::{Damage, Failed, Fault, FileId, Folder};
 
 /// Reads bytes from a place on into the whole of `out`.
 ///
-/// Too few bytes are corruption: the error has the place of the read, and finds how many bytes there were, modulo 2^32.
+/// Too few bytes are corruption: the error has the place of the read, and, as its word, how many bytes there were, modulo 2^32.
 pub fn read<F: Folder>(f: &mut F, addr: Addr, at: u64, out: &mut [u8]) -> Result<(), Fault>
     requires kind { kind_of addr ≡ external }
     ensures bytes { OnOk result (ForSome (F.told f.old).files (λ image. out.new ≡ range_at (byte image (named_file addr)) at (length out.old))) }
@@ -43,12 +43,12 @@ pub fn write<F: Folder>(f: &mut F, addr: Addr, at: u64, bytes: &[u8]) -> Result<
     requires kind { kind_of addr ≡ external }
     requires inside { ForSome (F.told f.old).files (λ image. HasRange image (named_file addr) at (length bytes.now)) }
     ensures steps { OnOk result (Applies (F.told f.old) (F.told f.new) (words (named_file addr) at bytes.now)) }
-    ensures file { OnOk result (Leaves (F.told f.old) (F.told f.new) (IsOverwritten addr at bytes.now)) }
+    ensures file { OnOk result (LeavesFrom (F.told f.old) (F.told f.new) (IsOverwritten addr at bytes.now)) }
 
     ensures prefix { AppliesPrefix (F.told f.old) (F.told f.new) (words (named_file addr) at bytes.now) }
 
     // At each word all other bytes of the file, and all other files, are as before.
-    ensures stops { Stops (F.told f.old) (F.told f.new) (ChangesExternal (range (named_file addr) at (length bytes.now)) (external_number addr)) }
+    ensures stops { StopsFrom (F.told f.old) (F.told f.new) (ChangesExternal (range (named_file addr) at (length bytes.now)) (external_number addr)) }
 
     ensures later { F.faults f.old ≤ F.faults f.new }
     ensures failed { OnErr result (Rises (F.faults f.old) (F.faults f.new)) }
@@ -62,10 +62,10 @@ pub fn resize<F: Folder>(f: &mut F, addr: Addr, length: u64) -> Result<(), Faile
     ensures steps { OnOk result (Applies (F.told f.old) (F.told f.new) (SetLength (named_file addr) length ∷ [])) }
     ensures prefix { AppliesPrefix (F.told f.old) (F.told f.new) (SetLength (named_file addr) length ∷ []) }
     ensures undone { OnErr result (Stays (F.told f.old) (F.told f.new)) }
-    ensures file { OnOk result (Leaves (F.told f.old) (F.told f.new) (IsResized addr length)) }
+    ensures file { OnOk result (LeavesFrom (F.told f.old) (F.told f.new) (IsResized addr length)) }
 
     // Before and after the step all other files are as before.
-    ensures stops { Stops (F.told f.old) (F.told f.new) (ChangesExternal (whole (named_file addr)) (external_number addr)) }
+    ensures stops { StopsFrom (F.told f.old) (F.told f.new) (ChangesExternal (whole (named_file addr)) (external_number addr)) }
 
     ensures later { F.faults f.old ≤ F.faults f.new }
     ensures failed { OnErr result (Rises (F.faults f.old) (F.faults f.new)) }
@@ -82,7 +82,7 @@ pub fn delete<F: Folder>(f: &mut F, addr: Addr) -> Result<(), Failed>
     ensures file { OnOk result (ForSome (F.told f.new).files (λ image. image (named_file addr) ≡ None)) }
 
     // Before and after the step all other files are as before.
-    ensures stops { Stops (F.told f.old) (F.told f.new) (ChangesExternal (whole (named_file addr)) (external_number addr)) }
+    ensures stops { StopsFrom (F.told f.old) (F.told f.new) (ChangesExternal (whole (named_file addr)) (external_number addr)) }
 
     ensures later { F.faults f.old ≤ F.faults f.new }
     ensures failed { OnErr result (Rises (F.faults f.old) (F.faults f.new)) }

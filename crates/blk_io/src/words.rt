@@ -137,7 +137,7 @@ fn bytes_of<const N: usize>(words: &[u32; N]) -> [[u8; 4]; N]
 
 /// Reads bytes of a file into the whole of `out`.
 ///
-/// Too few bytes are corruption: the error has the place of the read, and finds how many bytes there were. `Device`
+/// Too few bytes are corruption: the error has the place of the read, and, as its word, how many bytes there were. `Device`
 /// comes where the folder failed.
 pub fn read_exact<F: Folder>(
     folder: &mut F,

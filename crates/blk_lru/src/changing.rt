@@ -1,7 +1,7 @@
 // Changes of the LRU list, each an operation in flight until its last word.
 ghost use Rattle.std.specs.Prelude.{◌≡◌, ◌≢◌, ◌++◌, ◌∷◌, ◌≤◌, IfOk, IfSome, IsTrue, OnOk, Some, true};
 ghost use Rattle.std.specs.Option.{ForSome};
-ghost use Rattle.spec_image.specs.Told.{MakesPartOf, Rises, ReadsOnly, Leaves, LeavesWhere, StopsWhere};
+ghost use Rattle.spec_image.specs.Told.{MakesPartOf, Rises, ReadsOnly, LeavesFrom, LeavesWhere, StopsWhere};
 ghost use Rattle.spec_format.specs.Sealed.{sealed_steps};
 ghost use Rattle.spec_folder.specs.Completion.{insert, move, remove as removal};
 ghost use Rattle.spec_folder.specs.ListPlans.{touch_writes, writes_of};
@@ -39,7 +39,7 @@ pub fn insert_front<F: Folder>(f: &mut F, files: &BlockFiles, node: Addr) -> Res
     // Where the call succeeds, the checksum of each node that was written matched or was absent.
     ensures checked { OnOk result (ForSome (F.told f.old).files (λ from. CanBeMade from (writes_of insert node (list_of from)))) }
     ensures inserted { OnOk result (LeavesWhere (F.told f.old) (F.told f.new) (MayGoInFront node) (λ from. HasListAtRest (node ∷ walked from))) }
-    ensures sealed { OnOk result (Leaves (F.told f.old) (F.told f.new) (λ from. Seals from (writes_of insert node (list_of from)))) }
+    ensures sealed { OnOk result (LeavesFrom (F.told f.old) (F.told f.new) (λ from. Seals from (writes_of insert node (list_of from)))) }
     ensures steps { OnOk result (MakesAllOf (F.told f.old) (F.told f.new) (λ from. operation_steps insert node from)) }
     ensures prefix { MakesPartOf (F.told f.old) (F.told f.new) (λ from. operation_steps insert node from) }
 
@@ -72,7 +72,7 @@ pub fn remove<F: Folder>(f: &mut F, files: &BlockFiles, node: Addr) -> Result<()
     // Where the call succeeds, the checksums of the node and of both nodes that its links name matched or were absent.
     ensures checked { OnOk result (ForSome (F.told f.old).files (λ from. HasGoodLinks (list_of from) node)) }
     ensures removed { OnOk result (LeavesListed node (F.told f.old) (F.told f.new) (λ prefix suffix. prefix ++ suffix)) }
-    ensures sealed { OnOk result (Leaves (F.told f.old) (F.told f.new) (λ from. Seals from (writes_of removal node (list_of from)))) }
+    ensures sealed { OnOk result (LeavesFrom (F.told f.old) (F.told f.new) (λ from. Seals from (writes_of removal node (list_of from)))) }
     ensures steps { OnOk result (MakesAllOf (F.told f.old) (F.told f.new) (λ from. operation_steps removal node from)) }
     ensures prefix { MakesPartOf (F.told f.old) (F.told f.new) (λ from. operation_steps removal node from) }
 
@@ -106,8 +106,8 @@ pub fn touch<F: Folder>(f: &mut F, files: &BlockFiles, node: Addr, moment: u64) 
     // Where the call succeeds, each node that was written had a right or absent checksum, and so had both neighbours of a node that wasn't the first.
     ensures checked { OnOk result (ForSome (F.told f.old).files (λ from. CanBeTouched from node)) }
     ensures touched { OnOk result (LeavesListed node (F.told f.old) (F.told f.new) (λ prefix suffix. node ∷ prefix ++ suffix)) }
-    ensures times { OnOk result (Leaves (F.told f.old) (F.told f.new) (λ _. AreTimes node moment)) }
-    ensures sealed { OnOk result (Leaves (F.told f.old) (F.told f.new) (SealsAccess node)) }
+    ensures times { OnOk result (LeavesFrom (F.told f.old) (F.told f.new) (λ _. AreTimes node moment)) }
+    ensures sealed { OnOk result (LeavesFrom (F.told f.old) (F.told f.new) (SealsAccess node)) }
     ensures steps { OnOk result (MakesAllOf (F.told f.old) (F.told f.new) (λ from. steps_of_touch node moment from)) }
     ensures prefix { MakesPartOf (F.told f.old) (F.told f.new) (λ from. steps_of_touch node moment from) }
 

@@ -1,7 +1,7 @@
 // The redo of the operation in flight.
 ghost use Rattle.std.specs.Prelude.{◌≡◌, ◌≤◌, None, IfOk, IfSome, OnOk, map, true};
 ghost use Rattle.std.specs.Option.{ForSome};
-ghost use Rattle.spec_image.specs.Told.{MakesPartOf, Passes, Rises, ReadsOnly, Leaves};
+ghost use Rattle.spec_image.specs.Told.{MakesPartOf, Passes, Rises, ReadsOnly, LeavesFrom};
 ghost use Rattle.spec_folder.specs.ListPlans.{completion_writes};
 ghost use Rattle.spec_folder.specs.View.{list_of};
 ghost use Rattle.spec_folder.specs.ListSteps.{AreOf, AllWriteWords, Seals};
@@ -48,8 +48,8 @@ pub(crate) enum Usable<T> {
 /// the transaction word becomes 0. Where there is none in flight nothing is written. The list need not be whole. This takes at most 34 folder calls.
 pub fn complete<F: Folder>(f: &mut F, files: &BlockFiles) -> Result<(), Fault>
     requires is_open { ForSome (F.told f.old).files (IsOpen files.now) }
-    ensures sealed { OnOk result (Leaves (F.told f.old) (F.told f.new) (λ from. Seals from (completion_writes (list_of from)))) }
-    ensures done { OnOk result (Leaves (F.told f.old) (F.told f.new) IsCompleted) }
+    ensures sealed { OnOk result (LeavesFrom (F.told f.old) (F.told f.new) (λ from. Seals from (completion_writes (list_of from)))) }
+    ensures done { OnOk result (LeavesFrom (F.told f.old) (F.told f.new) IsCompleted) }
     ensures steps { OnOk result (MakesAllOf (F.told f.old) (F.told f.new) (λ from. completion_steps from)) }
     ensures prefix { MakesPartOf (F.told f.old) (F.told f.new) (λ from. completion_steps from) }
 
@@ -71,7 +71,7 @@ pub fn complete<F: Folder>(f: &mut F, files: &BlockFiles) -> Result<(), Fault>
 
 /// What the redo would write, in order: what is left of the operation in flight, or its end alone where it doesn't count.
 ///
-/// It is nothing where no operation is in flight. Nothing is written, and at most 6 folder calls are made.
+/// It is nothing where no operation is in flight. Nothing is written, and at most 7 folder calls are made.
 pub fn pending<F: Folder>(folder: &mut F, files: &BlockFiles) -> Result<Plan, Fault>
     ensures words { IfOk result (λ plan. AllWriteWords (map meant plan.items)) }
     ensures plan { OkFor result (F.told folder.old) (λ plan image. Agrees files.now image → map meant plan.items ≡ completion_writes (list_of image)) }

@@ -1,7 +1,7 @@
 // The end of the LRU list.
 ghost use Rattle.std.specs.Prelude.{◌≡◌, ◌≤◌, IfOk, IfSome, None, OnOk, map, true};
 ghost use Rattle.std.specs.Option.{ForSome};
-ghost use Rattle.spec_image.specs.Told.{MakesPartOf, Rises, ReadsOnly, Leaves};
+ghost use Rattle.spec_image.specs.Told.{MakesPartOf, Rises, ReadsOnly, LeavesFrom};
 ghost use Rattle.spec_folder.specs.ListPlans.{ending_writes, front_of};
 ghost use Rattle.spec_folder.specs.ListSteps.{AllWriteWords, AreOf, Seals, steps_of_writes};
 ghost use Rattle.spec_folder.specs.ListImages.{CanBeMade};
@@ -36,7 +36,7 @@ pub fn end_at<F: Folder>(
     requires stands { IfSome last (λ node. is_node_among files.now node ≡ true) }
     requires is_open { ForSome (F.told folder.old).files (IsOpen files.now) }
     ensures checked { OnOk result (ForSome (F.told folder.old).files (λ from. CanBeMade from (ending_writes (list_of from) last))) }
-    ensures sealed { OnOk result (Leaves (F.told folder.old) (F.told folder.new) (λ from. Seals from (ending_writes (list_of from) last))) }
+    ensures sealed { OnOk result (LeavesFrom (F.told folder.old) (F.told folder.new) (λ from. Seals from (ending_writes (list_of from) last))) }
     ensures steps { OnOk result (MakesAllOf (F.told folder.old) (F.told folder.new) (λ from. steps_of_writes (ending_writes (list_of from) last) from)) }
     ensures prefix { MakesPartOf (F.told folder.old) (F.told folder.new) (λ from. steps_of_writes (ending_writes (list_of from) last) from) }
     ensures is_open { ForSome (F.told folder.new).files (IsOpen files.now) }

@@ -194,7 +194,7 @@ unfolding row_of
 row_of_owned state valid n object item here has =
     ap (λ s. option_and_then (λ (x : Object). row_in x item) (option_and_then (object_at state) s)) (owned_at state valid n object item here has) ∙ ap (λ s. option_and_then (λ (x : Object). row_in x item) s) here
 
--- the weights of the parts of a live object
+-- the costs of the parts of a live object
 sum_of_parts : (state : State) (valid : IsValidState state) (h : Row → ℕ) (n : ℕ) (object : Object) → object_at state n ≡ Some object → object.live ≡ true → (es : List (ℕ × PartValue)) → All (λ p. find nat_cmp p.0 object.parts ≡ Some p.1) es →
     sum_by (λ item. of_row h (row_of state item)) (map (λ (p : ℕ × PartValue). part object.key p.0) es) ≡ sum_by (λ p. h (part_row object.key p.0 p.1)) es
 unfolding of_row
@@ -207,7 +207,7 @@ sum_of_parts state valid h n object here live (e ∷ es) all =
     ∙ ap (λ o. of_row h o + sum_by (λ item. of_row h (row_of state item)) (map (λ (p : ℕ × PartValue). part object.key p.0) es)) (row_of_owned state valid n object (part object.key e.0) here has ∙ ap (option_map (λ value. part_row object.key e.0 value)) found)
     ∙ ap (λ k. h (part_row object.key e.0 e.1) + k) rest ∙ sym (sum_by-cons (λ (p : ℕ × PartValue). h (part_row object.key p.0 p.1)) e es)
 
--- what a slot's rows weigh
+-- what a slot's rows cost
 slot_weight : (Row → ℕ) → Option Object → ℕ
 slot_weight h None = 0
 slot_weight h (Some object) = cond object.live (h (main_row object.key object.shape object.streams) + sum_by (λ p. h (part_row object.key p.0 p.1)) object.parts) 0
@@ -225,7 +225,7 @@ sum_of_slot state valid h n (Some object) here =
           ∙ ap (λ k. h (main_row object.key object.shape object.streams) + k) (sum_of_parts state valid h n object here live object.parts (each_found object.parts is_object.rising))
     ] refl
 
--- the weights of slots, each of which is a slot of the state
+-- the costs of slots, each of which is a slot of the state
 sum_of_slots : (state : State) (valid : IsValidState state) (h : Row → ℕ) (start : ℕ) (slots : List (Option Object)) → ((n : ℕ) → n + 1 ≤ length slots → get_or slots n None ≡ object_at state (start + n)) →
     sum_by (λ item. of_row h (row_of state item)) (all_items slots) ≡ sum_by (slot_weight h) slots
 unfolding all_items
@@ -240,7 +240,7 @@ sum_of_slots state valid h start (slot ∷ slots) same =
     next : (start n : ℕ) → start + suc n ≡ (start + 1) + n
     next start n = omega arith
 
--- the sum over the rows is the sum of what the slots weigh
+-- the sum over the rows is the sum of what the slots cost
 sum_is : (state : State) (valid : IsValidState state) (h : Row → ℕ) → sum_by h (rows state) ≡ sum_by (slot_weight h) state.objects
 sum_is state valid h = sum_of_all state valid h ∙ sum_of_slots state valid h 0 state.objects (λ n below. ap (object_at state) (plus_zero n))
   where

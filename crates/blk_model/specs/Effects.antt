@@ -94,7 +94,7 @@ abbrev pub made_sparse : ℕ → Shape → Shape
 made_sparse moment plain = sparse (moment % signatures)
 made_sparse moment (sparse signature) = sparse signature
 
--- an object after a sparse write; one of no bytes changes nothing
+-- an object after a sparse write; a write of no bytes changes nothing
 unfoldable pub sparse_after : ℕ → Object → ℕ → List ℕ → Object
 sparse_after moment object offset [] = object
 sparse_after moment object offset (byte ∷ bytes) = record object {

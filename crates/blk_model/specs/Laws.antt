@@ -64,7 +64,7 @@ RefusalsAreTheFirst = (state : State) (moment : ℕ) (request : Request) (why : 
 abbrev pub NoneIsRefusedForMemory : Type 0
 NoneIsRefusedForMemory = (state : State) (moment : ℕ) (request : Request) → (step state moment request).reply ≢ answered (answer.Refused refusal.Memory)
 
--- no command is refused for handles that are bound elsewhere
+-- no command is refused for too many handles being bound
 abbrev pub NoneIsRefusedForNoHandle : Type 0
 NoneIsRefusedForNoHandle = (state : State) (moment : ℕ) (request : Request) → (step state moment request).reply ≢ answered (answer.Refused refusal.NoHandle)
 

@@ -64,7 +64,7 @@ abbrev pub covered : Request → State → List Item
 covered (to_sparse_write handle offset bytes) state = map (part (object_of state handle).key) (covered_parts offset (length bytes))
 covered _ state = []
 
--- the capacity for what a command adds to the total and to the number of items: none, or what is evicted for it; a fall counts as nothing
+-- the capacity for what a command adds to the total and to the number of items: none, or what is evicted for it; a command that lowers them adds nothing
 unfoldable pub room_for : ℕ → Request → State → Room
 room_for moment request state =
     let grown = effect moment request state in

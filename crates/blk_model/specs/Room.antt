@@ -60,7 +60,7 @@ total state = total_of state.objects
 abbrev pub items : State → ℕ
 items state = count_of state.objects
 
--- the low watermark: once items are evicted, as many are evicted as leave no more bytes
+-- the low watermark: once items are evicted, this goes on until at most so many bytes are left
 abbrev pub low : State → ℕ
 low state = state.limits.max_bytes - state.limits.max_bytes / free_share
 

@@ -17,7 +17,7 @@ handle_names = 4096
 abbrev pub stream_count : ℕ
 stream_count = 3
 
--- a stream has at most this share of the bytes that a cache keeps
+-- a stream has at most the bytes that a cache may keep, divided by this
 abbrev pub stream_share : ℕ
 stream_share = 8
 
@@ -29,7 +29,7 @@ most_stream = 2147483647
 abbrev pub longest_stream : ℕ → ℕ
 longest_stream most = min (most / stream_share) most_stream
 
--- space is made until this share of the bytes that a cache keeps is free
+-- space is made until the bytes that a cache may keep, divided by this, are free
 abbrev pub free_share : ℕ
 free_share = 16
 

@@ -22,7 +22,7 @@ use Rattle.spec_format.specs.BlockFiles.{HasSoundHeaders, stands_in}
 
 -- What may be freed.
 
--- Preconditions.
+-- an address, or none: if it names blocks, these are valid by the table
 abbrev pub IsPlaceAmong : BlockFiles → Option ℕ → Type 0
 IsPlaceAmong files place = IfSome place (λ w. kind_of w ≢ external → stands_among files w ≡ true)
 
@@ -113,6 +113,6 @@ FreesWords old new words = ForSome old.files (λ from. AreFreeable words from �
 abbrev pub StopsFreeing : (old new : Told) → List ℕ → Type 0
 StopsFreeing old new words = ForSome old.files (λ from. AreFreeable words from → Passes old new (AreGoing words from))
 
--- address w is freed, if it stands in a folder whose block files have well-formed headers
+-- address w is freed, if it is valid in a folder of which no check of a header fails, but perhaps that of the magic word
 abbrev pub FreesStanding : (old new : Told) → ℕ → Type 0
 FreesStanding old new w = ForSome old.files (λ from. HasSoundHeaders from → stands_in from w ≡ true → ForSome new.files (RemovesPlace w from))

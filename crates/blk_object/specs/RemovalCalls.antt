@@ -1,4 +1,4 @@
--- What the calls that remove and doom say: of each item or object that they may be of, each word takes the image before, and what a state has there.
+-- Clauses of the calls that remove and doom. Each predicate is given the image before the call and what a state has there.
 use Rattle.std.specs.Prelude.{◌≡◌, ℕ, List, Bool, Some}
 use Rattle.std.specs.Option.{ForSome}
 use Rattle.spec_image.specs.Image.{Image}

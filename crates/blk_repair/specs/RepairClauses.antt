@@ -36,19 +36,19 @@ Where told old new C P = ForSome (told old).files (λ from. C from → P from (t
 abbrev pub ForEntry : {S : Type 0} → (told : S → Told) → (old new : S) → (C : (entry from : Image) → Type 0) → (entry : Image → StepClause) → Type 0
 ForEntry told old new C P = ForSome (told old).files (λ from. (entry : Image) → C entry from → P entry from (told old) (told new))
 
--- and C is that the links are recovered, and `claims` are the blocks and files that the kept entries use
+-- P holds on each `entry` and on the image before the steps, if the links are recovered and `claims` are the blocks and files that the kept entries use
 abbrev pub WhereRebuilt : {S : Type 0} → (told : S → Told) → (old new : S) → Claims → (entry : Image → StepClause) → Type 0
 WhereRebuilt told old new claims P = ForSome (told old).files (λ from. (entry : Image) → IsNextRebuilt entry claims from → P entry from (told old) (told new))
 
--- and C is that the links are recovered, and these nodes and records of kept entries get their checksum next
+-- P holds on each `entry` and on the image before the steps, if the links are recovered and these nodes and records of kept entries get their checksum next
 abbrev pub WhereSealed : {S : Type 0} → (told : S → Told) → (old new : S) → (words : List ℕ) → (entry : Image → StepClause) → Type 0
 WhereSealed told old new words P = ForSome (told old).files (λ from. (entry : Image) → IsNextSealed entry words from → P entry from (told old) (told new))
 
--- and C is that the list ends with the walked nodes, none of which was removed yet
+-- P holds on each `entry` and on the image before the steps, if the list ends with the walked nodes, none of which was removed yet
 abbrev pub WhereEnded : {S : Type 0} → (told : S → Told) → (old new : S) → (walked kept : List ℕ) → (entry : Image → StepClause) → Type 0
 WhereEnded told old new walked kept P = ForSome (told old).files (λ from. (entry : Image) → IsEndedList entry walked kept from → P entry from (told old) (told new))
 
--- and C is that the recovery of the chains comes to this bucket, of which P doesn't depend on `entry`
+-- P holds on the image before the steps, if for some `entry` the recovery of the chains comes to this bucket next
 abbrev pub WhereNextBucket : {S : Type 0} → (told : S → Told) → (old new : S) → (bucket front : ℕ) → (records : List ℕ) → (whole : Bool) → StepClause → Type 0
 WhereNextBucket told old new bucket front records whole P =
     ForSome (told old).files (λ from. (entry : Image) → IsNextBucket entry bucket front records whole from → P from (told old) (told new))

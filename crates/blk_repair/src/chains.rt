@@ -19,7 +19,7 @@ use blk_io::{Fault, Folder};
 // next, and the last has 0.
 //
 // A word is written only where it differs. A wrong checksum of a record that is to be written is corruption, and so are too few bytes. This takes at most one
-// folder call and six for each record.
+// folder call and five for each record.
 pub(crate) fn mend_chain<F: Folder>(
     folder: &mut F,
     files: &BlockFiles,

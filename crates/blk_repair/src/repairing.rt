@@ -51,8 +51,8 @@ pub fn repair<F: Folder>(f: &mut F, files: &mut BlockFiles, scan: &Scan) -> Resu
     // In the end each linked file has its length, or exactly that of its header and blocks where this is greater.
     ensures fitted { OnOk result (AreFitted files.old files.new) }
 
-    // With the scan of a well-formed folder nothing is left to repair in the end, and at each word the same is kept and
-    // found.
+    // With the scan of a well-formed folder nothing is left to repair in the end, and at each word the kept
+    // records and the recovered contents are the same.
     ensures mended { OnOk result (Where F.told f.old f.new (IsRepairable scan.now) (Leaves IsRepaired)) }
 
     // Where the recovery is cut short, the crash word wasn't written, or the last step wrote it, and all is repaired as at the end.

@@ -34,7 +34,7 @@ pub fn seal_records<F: Folder>(
 
     ensures is_open { ForSome (F.told folder.new).files (IsOpen files.now) }
 
-    // An observable folder reports corruption only where not all of these nodes and records are kept.
+    // An observable folder reports corruption only where the links aren't repaired, or not all of these are kept.
     ensures damaged { IfDamaged result (IsWrongSealed files.now (F.told folder.new)) }
     ensures untold { UndamagedWhere result (F.told folder.old) (λ from. (entry : Image) × IsNextSealed entry records.now from) }
 

@@ -36,7 +36,7 @@ pub record LeavesPlace (entry i old size word : ℕ) (from image : Image) : Type
   pub empty : (n : ℕ) → max_entries_in from n ≤ most_blocks → EmptyAgrees from n → EmptyAgrees image n
   pub gone : kind_of old ≡ external → has_file image (External (external_number old)) ≡ false
 
--- in the midst of it: nothing outside the record's words and the old place's map or file has changed, the record's checksum matches or is absent, and the old
+-- in the midst of that change: nothing outside the record's words and the old place's map or file has changed, the record's checksum matches or is absent, and the old
 -- place is untouched until the record has the new words
 pub record LeavesPlaceInProgress (entry i old size word : ℕ) (from image : Image) : Type 0 where
   pub same : SameOutside (either (stream_words entry i) (freeing_of old)) from image

@@ -2,7 +2,7 @@
 ghost use Rattle.std.specs.Prelude.{◌≡◌, ◌+◌, ◌≤◌, ◌<◌, OnOk, length};
 ghost use Rattle.std.specs.Option.{ForSome};
 ghost use Rattle.spec_image.specs.Footprint.{SameOutside};
-ghost use Rattle.spec_image.specs.Told.{LeavesWhere, MakesPartOf, MayWrite, Rises, Stops};
+ghost use Rattle.spec_image.specs.Told.{LeavesWhere, MakesPartOf, MayWrite, Rises, StopsFrom};
 ghost use Rattle.blk_io.specs.Faults.{IfDamaged, IfDevice, UndamagedWhere};
 ghost use Rattle.blk_disk.specs.Tables.{Agrees};
 ghost use Rattle.blk_entry.specs.Keys.{IsCut, IsInFile, IsInside, data_at};
@@ -33,7 +33,7 @@ pub(crate) fn copy<F: Folder>(
     requires agrees { ForSome (F.told folder.old).files (Agrees files.now) }
     requires to_there { ForSome (F.told folder.old).files (IsInFile to 0 end) }
     ensures copied { OnOk result (LeavesWhere (F.told folder.old) (F.told folder.new) (λ old. ShareNoData from to) (IsCopied from to start end)) }
-    ensures stops { Stops (F.told folder.old) (F.told folder.new) (SameOutside (span_of to start end)) }
+    ensures stops { StopsFrom (F.told folder.old) (F.told folder.new) (SameOutside (span_of to start end)) }
     ensures writes { MayWrite F.told F.faults folder.old folder.new (IfDevice result) }
     ensures agrees { ForSome (F.told folder.new).files (Agrees files.now) }
     ensures damaged { IfDamaged result (IsCutPrefix (F.told folder.new) from end) }
@@ -92,7 +92,7 @@ pub(crate) fn copy_old<F: Folder>(
     requires agrees { ForSome (F.told folder.old).files (Agrees files.now) }
     requires there { ForSome (F.told folder.old).files (IsInFile to 0 size) }
     ensures copied { OnOk result (LeavesWhere (F.told folder.old) (F.told folder.new) (HasOldApart old to) (AreOldBytesOf old to size offset count)) }
-    ensures stops { Stops (F.told folder.old) (F.told folder.new) (SameOutside (old_spans to old.size size offset count)) }
+    ensures stops { StopsFrom (F.told folder.old) (F.told folder.new) (SameOutside (old_spans to old.size size offset count)) }
     ensures writes { MayWrite F.told F.faults folder.old folder.new (IfDevice result) }
     ensures agrees { ForSome (F.told folder.new).files (Agrees files.now) }
     ensures damaged { IfDamaged result (IsCutOld (F.told folder.new) old) }

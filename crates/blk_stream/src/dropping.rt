@@ -1,7 +1,7 @@
 // The streams of an entry are dropped.
 ghost use Rattle.std.specs.Prelude.{◌≡◌, ◌<◌, IsTrue, OnOk, length};
 ghost use Rattle.std.specs.Option.{ForSome};
-ghost use Rattle.spec_image.specs.Told.{Leaves, MayWrite, StopsWhere};
+ghost use Rattle.spec_image.specs.Told.{LeavesFrom, MayWrite, StopsWhere};
 ghost use Rattle.spec_format.specs.Address.{blocks_256, kind_of};
 ghost use Rattle.spec_format.specs.Records.{entry_size};
 ghost use Rattle.spec_format.specs.Sealed.{RecordChecks};
@@ -30,7 +30,7 @@ pub fn drop_streams<F: Folder>(f: &mut F, files: &BlockFiles, entry: Addr) -> Re
     ensures checked { OnOk result (ForSome (F.told f.old).files (RecordChecks entry)) }
 
     // No stream has bytes or a place; the blocks of those that did aren't marked, and their files are deleted; all else is as before.
-    ensures dropped { OnOk result (Leaves (F.told f.old) (F.told f.new) (AreDropped 3 entry)) }
+    ensures dropped { OnOk result (LeavesFrom (F.told f.old) (F.told f.new) (AreDropped 3 entry)) }
     ensures agrees { ForSome (F.told f.new).files (Agrees files.now) }
 
     // At each word the record's checksum matches or is absent, and nothing but the words of the streams and their places has changed; until the record names a

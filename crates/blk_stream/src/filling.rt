@@ -2,7 +2,7 @@
 ghost use Rattle.std.specs.Prelude.{◌≡◌, ◌==◌, ◌+◌, ◌≤◌, ◌<◌, OnOk, if◌then◌else◌, length, unwrap_or};
 ghost use Rattle.std.specs.Option.{ForSome};
 ghost use Rattle.spec_image.specs.Footprint.{SameOutside};
-ghost use Rattle.spec_image.specs.Told.{MayWrite, Stops};
+ghost use Rattle.spec_image.specs.Told.{MayWrite, StopsFrom};
 ghost use Rattle.spec_format.specs.Address.{external, kind_of};
 ghost use Rattle.blk_io.specs.Faults.{IfDamaged, IfDevice, OpaqueIfDamaged};
 ghost use Rattle.blk_disk.specs.Tables.{Agrees};
@@ -34,7 +34,7 @@ pub(crate) fn fill<F: Folder>(
     requires few { offset + length bytes.now ≤ size }
     requires agrees { ForSome (F.told folder.old).files (Agrees files.now) }
     ensures filled { OnOk result (LeavesFilled (F.told folder.old) (F.told folder.new) old addr size offset bytes.now) }
-    ensures stops { Stops (F.told folder.old) (F.told folder.new) (SameOutside (data_of addr)) }
+    ensures stops { StopsFrom (F.told folder.old) (F.told folder.new) (SameOutside (data_of addr)) }
     ensures agrees { ForSome (F.told folder.new).files (Agrees files.now) }
     ensures damaged { IfDamaged result (IsCutOld (F.told folder.new) old) }
     ensures untold { ForSome (F.told folder.old).files (IsOldThere old) → ShareNoFile (unwrap_or old.addr 0) addr → OpaqueIfDamaged result (F.told folder.old) }

@@ -2,7 +2,7 @@
 ghost use Rattle.std.specs.Prelude.{◌≡◌, ◌≢◌, IsTrue, OnErr, OnOk};
 ghost use Rattle.std.specs.Option.{ForSome};
 ghost use Rattle.spec_image.specs.Footprint.{SameOutside};
-ghost use Rattle.spec_image.specs.Told.{Leaves, MayWrite, Stays, Stops};
+ghost use Rattle.spec_image.specs.Told.{LeavesFrom, MayWrite, Stays, StopsFrom};
 ghost use Rattle.spec_format.specs.Address.{external, kind_of};
 ghost use Rattle.blk_io.specs.Faults.{IfDamaged, IfDevice, UndamagedWhere};
 ghost use Rattle.blk_disk.specs.Tables.{Agrees, stands_among};
@@ -23,10 +23,10 @@ pub(crate) fn free_place<F: Folder>(
 ) -> Result<(), Fault>
     requires stands { kind_of addr ≢ external → IsTrue (stands_among files.now addr) }
     requires agrees { ForSome (F.told folder.old).files (Agrees files.now) }
-    ensures freed { OnOk result (Leaves (F.told folder.old) (F.told folder.new) (IsPlaceFreed addr)) }
-    ensures frees { OnOk result (Leaves (F.told folder.old) (F.told folder.new) (FreesPlace addr)) }
-    ensures stops { Stops (F.told folder.old) (F.told folder.new) (SameOutside (freeing_of addr)) }
-    ensures stages { Stops (F.told folder.old) (F.told folder.new) (FreesPlaceInProgress addr) }
+    ensures freed { OnOk result (LeavesFrom (F.told folder.old) (F.told folder.new) (IsPlaceFreed addr)) }
+    ensures frees { OnOk result (LeavesFrom (F.told folder.old) (F.told folder.new) (FreesPlace addr)) }
+    ensures stops { StopsFrom (F.told folder.old) (F.told folder.new) (SameOutside (freeing_of addr)) }
+    ensures stages { StopsFrom (F.told folder.old) (F.told folder.new) (FreesPlaceInProgress addr) }
     ensures agrees { ForSome (F.told folder.new).files (Agrees files.now) }
     ensures cause { IfDamaged result (IsFreeingCause (F.told folder.old) addr) }
     ensures unwritten { IfDamaged result (λ _. Stays (F.told folder.old) (F.told folder.new)) }
@@ -45,10 +45,10 @@ pub(crate) fn free_place<F: Folder>(
 fn delete_file<F: Folder>(folder: &mut F, files: &BlockFiles, addr: Addr) -> Result<(), Failed>
     requires kind { kind_of addr ≡ external }
     requires agrees { ForSome (F.told folder.old).files (Agrees files.now) }
-    ensures freed { OnOk result (Leaves (F.told folder.old) (F.told folder.new) (IsPlaceFreed addr)) }
-    ensures frees { OnOk result (Leaves (F.told folder.old) (F.told folder.new) (FreesPlace addr)) }
-    ensures stops { Stops (F.told folder.old) (F.told folder.new) (SameOutside (freeing_of addr)) }
-    ensures stages { Stops (F.told folder.old) (F.told folder.new) (FreesPlaceInProgress addr) }
+    ensures freed { OnOk result (LeavesFrom (F.told folder.old) (F.told folder.new) (IsPlaceFreed addr)) }
+    ensures frees { OnOk result (LeavesFrom (F.told folder.old) (F.told folder.new) (FreesPlace addr)) }
+    ensures stops { StopsFrom (F.told folder.old) (F.told folder.new) (SameOutside (freeing_of addr)) }
+    ensures stages { StopsFrom (F.told folder.old) (F.told folder.new) (FreesPlaceInProgress addr) }
     ensures agrees { ForSome (F.told folder.new).files (Agrees files.now) }
     ensures writes { MayWrite F.told F.faults folder.old folder.new (OnErr result) }
 {

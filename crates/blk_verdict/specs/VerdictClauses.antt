@@ -66,7 +66,7 @@ WhereAgrees told files P = ForSome told.files (λ image. Agrees files image → 
 abbrev pub WhereRead : Told → BlockFiles → Lists → (Image → Type 0) → Type 0
 WhereRead told files lists P = ForSome told.files (λ image. Agrees files image → AreListsOf image lists → P image)
 
--- and where the image has at this node what was read of it
+-- where the table and the lists are those of the image, and it has at this node what was read of it, P holds of it
 abbrev pub WhereNode : Told → BlockFiles → Lists → WalkedNode → (Image → Type 0) → Type 0
 WhereNode told files lists node P = ForSome told.files (λ image. Agrees files image → AreListsOf image lists → IsSaidAt image node → P image)
 
@@ -79,7 +79,7 @@ abbrev pub WhereLoaded : Told → BlockFiles → KeptSoFar → Loaded → GivenC
 WhereLoaded told files so_far loaded P =
     ForSome told.files (λ image. Agrees files image → (kept : List shown.Loaded) (given : shown.Loaded) → AreShown image kept so_far.kept.items → IsLoadedFrom image given loaded → P image kept given)
 
--- and where `key` is the key of the further one, if it is a part
+-- where the table is that of the image, and `key` is the key of the further one if that is a part, P holds of the kept entries and of the further one
 abbrev pub WhereGiven : Told → BlockFiles → KeptSoFar → Loaded → (key : List ℕ) → GivenClause → Type 0
 WhereGiven told files so_far loaded key P =
     ForSome told.files (λ image. Agrees files image → (kept : List shown.Loaded) (given : shown.Loaded) → AreShown image kept so_far.kept.items → IsLoadedFrom image given loaded → IsNameOf image loaded key → P image kept given)
@@ -94,11 +94,11 @@ ChecksPass result told files P = ForSome told.files (Agrees files) → ForSome t
 abbrev pub ScanPassesWhere : {A : Type 0} → Result A ScanFault → Told → (Image → Type 0) → Type 0
 ScanPassesWhere result told P = ForSome told.files P → IfScanDamaged result (λ _. told.files ≡ None)
 
--- and where the table is that of the image
+-- where the table is that of an observable folder, and P holds of its image, the answer of a scan is no failed check
 abbrev pub ScanPasses : {A : Type 0} → Result A ScanFault → Told → BlockFiles → (Image → Type 0) → Type 0
 ScanPasses result told files P = ForSome told.files (Agrees files) → ScanPassesWhere result told P
 
--- and where the image of an observable folder has what was read: the table, the lists and this node
+-- where an observable folder has what was read, the table, the lists and this node, and P holds of its image, the answer of a scan is no failed check
 abbrev pub ScanPassesAt : {A : Type 0} → Result A ScanFault → Told → BlockFiles → Lists → WalkedNode → (Image → Type 0) → Type 0
 ScanPassesAt result told files lists node P =
     ForSome told.files (λ image. Agrees files image) → ForSome told.files (λ image. AreListsOf image lists × IsSaidAt image node) → ScanPassesWhere result told P
@@ -177,7 +177,7 @@ SaysChild node is image = is ≡ audit.is_child (store_of image) node
 abbrev pub JudgesNode : WalkedNode → (reached : Bool) → Verdict → Image → Type 0
 JudgesNode node reached verdict image = IsSaidAt image node → reached ≡ is_among (reached_by (store_of image) table_length) node.contents → IsVerdict (shown.load (store_of image) held_rule node.addr) verdict
 
--- and so where its record was read as well
+-- the verdict is that of the model on the node where it and its record were read
 abbrev pub JudgesRecord : WalkedNode → (entry : ℕ) → ReadRecord → (reached : Bool) → Verdict → Image → Type 0
 JudgesRecord node entry said reached verdict image =
     AreWordsOf image entry said.words → IsRightWhereSaid image entry said → (store_of image).node_fields node.addr ≡ Some (record { contents = entry; dirty = node.dirty })
@@ -188,7 +188,7 @@ abbrev pub JudgesData : BlockFiles → (node entry : ℕ) → ReadRecord → (re
 JudgesData files node entry said reached verdict image = (dirty : ℕ) → Agrees files image → IsRightWhereSaid image entry said
     → reached ≡ is_among (chain (store_of image) (bucket_of_hash said.words.hash)).reached entry → IsVerdict (load_data (store_of image) node entry dirty (fields_said said.words)) verdict
 
--- and so where the image has the key
+-- the verdict is that of the model from the key on where the image has the key
 abbrev pub JudgesKey : BlockFiles → (node entry : ℕ) → ReadRecord → (reached : Bool) → Verdict → Image → Type 0
 JudgesKey files node entry said reached verdict image = (dirty : ℕ) → Agrees files image → is_some (stored_key (store_of image) entry (fields_said said.words)) ≡ true → IsRightWhereSaid image entry said
     → reached ≡ is_among (chain (store_of image) (bucket_of_hash said.words.hash)).reached entry → IsVerdict (load_data (store_of image) node entry dirty (fields_said said.words)) verdict
@@ -229,7 +229,7 @@ IsHashIfRight entry said sum image = IsRightWhereSaid image entry said → IsHas
 abbrev pub IsKeyIfChild : (entry : ℕ) → RecordWords → (bytes : List ℕ) → Image → Type 0
 IsKeyIfChild entry words bytes image = words.flags ≡ child → IsKeyInPrefix image entry words bytes
 
--- and then a prefix of them is the name of the part that was loaded
+-- if the record has the flag of a part, a prefix of the bytes is the name of the part that was loaded
 abbrev pub NamesPart : (entry : ℕ) → RecordWords → (bytes : List ℕ) → Verdict → Image → Type 0
 NamesPart entry words bytes verdict image = IsKeyIfChild entry words bytes image → IsNameInPrefix image verdict bytes
 
@@ -237,7 +237,7 @@ NamesPart entry words bytes verdict image = IsKeyIfChild entry words bytes image
 abbrev pub IsItsKey : Loaded → (key : List ℕ) → (same : Bool) → Image → Type 0
 IsItsKey loaded key same image = (stored : List ℕ) → IsKeyOf image loaded stored → same ≡ bytes_eq stored key
 
--- and so where the table is that of the image
+-- `same` says whether this is the key of the entry, where the table is that of the image
 abbrev pub IsItsKeyBy : BlockFiles → Loaded → (key : List ℕ) → (same : Bool) → Image → Type 0
 IsItsKeyBy files loaded key same image = (stored : List ℕ) → Agrees files image → IsKeyOf image loaded stored → same ≡ bytes_eq stored key
 
@@ -252,11 +252,11 @@ abbrev pub IsRoleOf : RecordWords → (key : List ℕ) → Option Role → Image
 IsRoleOf words key role image = (stored : List ℕ) (streams : List (List ℕ)) → (words.flags ≡ child → stored ≡ key) → stored_streams (store_of image) (fields_said words) ≡ Some streams
     → IsRoleIf stored (entries.role_of (fields_said words) stored streams) role
 
--- and so of a parent, whatever its key
+-- the role is that of a parent with these words, whatever its key, if the image has its streams
 abbrev pub IsParentRoleOf : RecordWords → Option Role → Image → Type 0
 IsParentRoleOf words role image = (key : List ℕ) (streams : List (List ℕ)) → stored_streams (store_of image) (fields_said words) ≡ Some streams → IsRoleIf key (entries.parent_role (fields_said words) streams) role
 
--- and so of a part
+-- the role is that of a part with this key and these words, if the image has its streams
 abbrev pub IsPartRoleOf : RecordWords → (key : List ℕ) → Option Role → Image → Type 0
 IsPartRoleOf words key role image = (streams : List (List ℕ)) → stored_streams (store_of image) (fields_said words) ≡ Some streams → IsRoleIf key (entries.part_role key streams) role
 
@@ -284,7 +284,7 @@ abbrev pub TriesPass : Told → BlockFiles → Lists → (children : Bool) → (
 TriesPass told files lists children old old_tried new new_tried =
     WhereRead told files lists (λ image. (before : List ℕ) → AreTried image (nodes_walked lists.walked) before old.kept.items old_tried → AreTried image (nodes_walked lists.walked) (before ++ of_pass (store_of image) children (nodes_walked lists.walked)) new.kept.items new_tried)
 
--- and walked node i was tried, if it is of the pass
+-- where the table and the lists are those of the image, the nodes of the pass before walked node i were tried, and node i if it is of the pass
 abbrev pub TriesAt : Told → BlockFiles → Lists → (i : ℕ) → (children : Bool) → (old : KeptSoFar) → (old_tried : List Tried) → (new : KeptSoFar) → (new_tried : List Tried) → Type 0
 TriesAt told files lists i children old old_tried new new_tried =
     WhereRead told files lists (λ image. (before : List ℕ) (w : ℕ) → slice_get (nodes_walked lists.walked) i ≡ Some w → AreTried image (nodes_walked lists.walked) before old.kept.items old_tried → AreTried image (nodes_walked lists.walked) (before ++ of_pass (store_of image) children (w ∷ [])) new.kept.items new_tried)

@@ -16,7 +16,7 @@ impl Loaded {
     }
 }
 
-/// How many bytes the keys and the streams of several have.
+/// How many bytes the keys and the streams of several entries have.
 pub fn charge_of_all(kept: &[Loaded]) -> u64
     requires few { length kept.now ≤ 131072 }
     ensures { result ≡ sum_by charge_said kept.now }

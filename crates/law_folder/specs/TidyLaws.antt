@@ -1,4 +1,4 @@
--- The laws of folders that have a state: maps, counters, lengths and checksums beside what is shown.
+-- The laws of folders that have a state: maps, counters, lengths and checksums, in addition to what is shown.
 use Rattle.std.specs.Prelude.{◌≡◌, ℕ, List, true}
 use Rattle.spec_image.specs.Image.{Image}
 use Rattle.spec_image.specs.Steps.{after}
@@ -16,7 +16,7 @@ use Rattle.spec_folder.specs.Tidy.{HasState, IsBehindHeaders, FilesStand}
 abbrev pub FilesStandBehindHeaders : Type 0
 FilesStandBehindHeaders = (footprint : Footprint) (from image : Image) → IsBehindHeaders footprint → SameOutside footprint from image → HasSoundHeaders from → FilesStand from image
 
--- an image that represents a state by a layout, its files too, stands for it
+-- an image that represents a state by a layout, its files too, represents it (`StandsFor`)
 abbrev pub StatesAreStoodFor : Type 0
 StatesAreStoodFor = (image : Image) (state : State) (layout : Layout) (numbers : List ℕ) → HasState state layout numbers image → StandsFor image state
 

@@ -259,7 +259,7 @@ pub fn charges_are_the_totals()
     ensures opened { OpenedChargesAreTheTotals }
 {}
 
-/// An image that represents a state by a layout, its files too (`HasState`), stands for it, and after the access of a listed item it so represents the state
+/// An image that represents a state by a layout, its files too (`HasState`), represents it (`StandsFor`), and after the access of a listed item it so represents the state
 /// with that item in front. A change that is after the headers leaves the files of a well-formed folder as they are.
 pub fn states_are_had()
     ensures files { FilesStandBehindHeaders }

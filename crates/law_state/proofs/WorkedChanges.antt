@@ -203,11 +203,11 @@ cut-only = rewritten-only open_folder (records 2) b_fields open-writable open-en
 cut-outside : SameOutside (record_range (records 2)) open_folder cut_folder
 cut-outside = rewritten-outside open_folder (records 2) b_fields open-writable open-entry refl (emptied_words 0) (are-changes (records 2) b-kind 0) (before-seal (records 2) b-kind 0)
 
--- it is a change inside of what is the node's, so meanwhile the old durable contents are recovered
 -- what is counted is as it was
 pub cut-counted : CountsItems cut_folder unsettled unsettled_layout
 cut-counted = updates-leave open_folder cut_folder (records 2) cut-outside ∙ unsettled-keeps.counters
 
+-- the cut changes only what is the node's, so the old durable contents are recovered meanwhile
 cut-inside : IsInsideNode (has_claim (claims_of (records 2))) (view_of open_folder) (view_of cut_folder) unsettled_layout (nodes 2) open_b
 cut-inside = updates-are-inside open_state unsettled_layout [] open_folder cut_folder (nodes 2) open_b b_fields cut_fields open-keeps open-here cut-written.0 open-entry cut-written.1 refl refl
 

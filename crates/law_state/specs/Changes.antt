@@ -31,7 +31,7 @@ FindsFinished rows image = IsWellFormed image × (found image ≡ rows)
 abbrev pub HeldIsFound : Type 0
 HeldIsFound = (rows : List Row) (image : Image) → Finds rows image → magic_of (byte image Index) ≡ index_magic → FindsFinished rows image
 
--- so it is at each of some steps that a command may make, where the index is initialized before the first
+-- at each of some steps that a command may make this is so, if the index is initialized before the first
 abbrev pub HeldIsFoundAlong : Type 0
 HeldIsFoundAlong = (rows : List Row) (image : Image) (steps : List TrailStep) → IsQuiet steps → magic_of (byte image Index) ≡ index_magic
     → Along (Finds rows) image steps → Along (FindsFinished rows) image steps
@@ -74,14 +74,14 @@ AreOfWords touched words = (claim : Claim) → touched claim ≡ true → has_cl
 
 -- Allocations.
 
--- a block file is linked as before, or isn't as before, and has the same presence, length and number of blocks
+-- a block file is linked as the kind it was, or is still not linked, and has the same presence, length and number of blocks
 pub record SameExtent (from image : Image) (n : ℕ) : Type 0 where
   pub linked : linked_as image n ≡ linked_as from n
   pub there : has_file image (Block n) ≡ has_file from (Block n)
   pub length : length_of image (Block n) ≡ length_of from (Block n)
   pub blocks : max_entries_in image n ≡ max_entries_in from n
 
--- a block file is linked as before, or isn't as before, with the same presence, length and number of blocks, and keeps its allocations
+-- a block file is linked as the kind it was, or is still not linked, with the same presence, length and number of blocks, and keeps its allocations
 pub record StaysLinked (from image : Image) (n : ℕ) : Type 0 where
   pub extent : SameExtent from image n
   pub mapped : (words : List ℕ) → is_some (linked_as from n) ≡ true → IsMapped from words n → IsMapped image words n

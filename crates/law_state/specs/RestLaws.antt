@@ -10,7 +10,7 @@ use Rattle.blk_model.specs.ListSteps.{list_steps}
 use Rattle.blk_model.specs.Stops.{StopOutcome}
 use Rattle.blk_model.specs.EvictionLaws.{EvictsFirst, later_steps}
 
--- on the state without some eviction units a command still evicts something, where others are left: it isn't that all fits before they are out
+-- on the state without some eviction units a command still evicts something, where others are left: it never happens that all fits while some are left
 abbrev pub EvictsTheRest : State → ℕ → Request → List Group → List Group → Type 0
 EvictsTheRest state moment request first others = evicted moment request (without first state) ≡ [] → others ≡ []
 

@@ -37,7 +37,7 @@ pub record FindsLeft (state : State) (moment : ℕ) (request : Request) (image :
   pub left : MayLeave state moment request held
   pub finds : Finds held image
 
--- from now to later the request may crash at each word, whatever state was kept before it began; where that was now, this is `MayStopAtEach`
+-- from now to later the request may crash at each word, whatever state was kept before it began; with `told` as `now` this is `MayStopAtEach`
 abbrev pub MayStopBetween : (State → Image → Type 0) → (told now later : Told) → ℕ → Request → Type 0
 MayStopBetween keeps told now later moment request = ForKept keeps told (λ state. Passes now later (MayStop state moment request))
 

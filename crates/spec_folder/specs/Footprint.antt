@@ -50,7 +50,7 @@ pub record SameBut (touched : Claim → Bool) (old new : View) : Type 0 where
 
 -- The records that stay when one is written.
 
--- two store views agree beside the record of a word: on all that nodes say, on its own key, and on the keys and data that lie in other blocks than its own
+-- two store views agree but for the record of a word: on all that nodes say, on its own key, and on the keys and data that lie in other blocks than its own
 pub record SameExceptAt (w : ℕ) (old new : StoreView) : Type 0 where
   pub node_fields : (u : ℕ) → old.node_fields u ≡ new.node_fields u
   pub key_place : (u : ℕ) (fields : RecordFields) → IsClear (has_claim (claims_of w)) u ⊎ (u ≡ w) → old.entry u ≡ Some fields
@@ -58,7 +58,7 @@ pub record SameExceptAt (w : ℕ) (old new : StoreView) : Type 0 where
       → old.key_place u fields.key_len ≡ new.key_place u fields.key_len
   pub stored : (size u : ℕ) → IsClear (has_claim (claims_of w)) u → old.stored size u ≡ new.stored size u
 
--- two store views agree on the fields of all records and on what nodes say, and beside the record of a word on keys and data; links of chains and the table may
+-- two store views agree on the fields of all records and on what nodes say, and but for the record of a word on keys and data; links of chains and the table may
 -- differ
 pub record OnlyLinksChange (w : ℕ) (old new : StoreView) : Type 0 where
   pub beside : SameExceptAt w old new

@@ -33,7 +33,7 @@ pub record OnlyNodeFieldsChange (w : ℕ) (from image : Image) : Type 0 where
   pub node_fields : (u : ℕ) → u ≢ w → (store_of from).node_fields u ≡ (store_of image).node_fields u
   pub rest : ShowsTheSame (record (store_of from) { node_fields = (store_of image).node_fields }) (store_of image)
 
--- two images agree beside the record of a word: on the list, the nodes, the table, its own key, and the keys and data in other blocks than its own
+-- two images agree but for the record of a word: on the list, the nodes, the table, its own key, and the keys and data in other blocks than its own
 pub record SameExceptRecord (w : ℕ) (from image : Image) : Type 0 where
   pub list : list_of image ≡ list_of from
   pub node_fields : (u : ℕ) → (store_of from).node_fields u ≡ (store_of image).node_fields u

@@ -72,7 +72,7 @@ pub record IsIndexCounted (image : Image) (listed : List Loaded) : Type 0 where
   pub tail : (view_of image).list.tail ≡ last_or 0 (map (λ loaded. loaded.node) listed)
   pub counts : CountsAs (length listed) (sum_by charge_of listed) (count_of (byte image Index))
 
--- files, counters, checksums and the words of the index agree with what is listed, and with what is kept beside the list
+-- files, counters, checksums and the words of the index agree with what is listed, and with what is kept in addition to the list
 pub record IsInOrder (image : Image) (listed doomed : List Loaded) : Type 0 where
   pub only_linked : OnlyLinked image
   pub long_enough : AreLongEnough image

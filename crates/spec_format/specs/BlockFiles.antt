@@ -78,7 +78,7 @@ stands_in image w = stands (linked_as image) (max_entries_in image) (λ n. lengt
 
 -- The checks of the headers.
 
--- the next_file of a block file is right: it is 0; or it is 4 to 255, none of the files met, and so many more files may follow
+-- the next_file of a block file is right: it is 0; or it is 4 to 255, none of the files met, and at least one more file may follow
 unfoldable pub is_link : List ℕ → ℕ → ℕ → Bool
 is_link met left next = (next == 0) || (nat_le 4 next && nat_le next 255 && not (is_among met next) && nat_lt 0 left)
 

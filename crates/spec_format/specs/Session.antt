@@ -17,10 +17,10 @@ pub record KeepsSessionWords (from image : Image) : Type 0 where
   pub id : this_id_of (byte image Index) ≡ this_id_of (byte from Index)
   pub crash : crash_of (byte image Index) ≡ crash_of (byte from Index)
 
--- so they are at each of some steps that a command may make
+-- at each of some steps that a command may make, these words of the index are as before
 abbrev pub QuietStepsKeepSessionWords : Type 0
 QuietStepsKeepSessionWords = (steps : List TrailStep) (image : Image) → IsQuiet steps → Along (KeepsSessionWords image) image steps
 
--- and after a call that makes such steps
+-- after a call that makes such steps, these words are as before
 abbrev pub CommandsKeepSessionWords : Type 0
 CommandsKeepSessionWords = (old new : Told) (steps : List TrailStep) → IsQuiet steps → Applies old new steps → ForSome old.files (λ from. ForSome new.files (KeepsSessionWords from))

@@ -161,7 +161,7 @@ pub record Commits (count : ℕ) (old new : Told) (P Q : Image → Type 0) : Typ
 
 -- Clauses of a call, on the folder before it (`old`) and after it (`new`); they say nothing where it is opaque.
 
--- P, one of these, holds of whatever `each` names in the folder
+-- P holds in an observable folder for all that `each` ranges over there
 abbrev pub ForTold : {A : Type 1} → Told → (each : Image → A → Type 0) → (P : Image → A) → Type 0
 ForTold told each P = ForSome told.files (λ from. each from (P from))
 
@@ -170,16 +170,16 @@ abbrev pub EndsIn : (new : Told) → (Image → Image → Type 0) → Image → 
 EndsIn new P from = ForSome new.files (P from)
 
 -- the folder that a call leaves is in relation P to the one before it
-abbrev pub Leaves : (old new : Told) → (Image → Image → Type 0) → Type 0
-Leaves old new P = ForSome old.files (λ from. ForSome new.files (P from))
+abbrev pub LeavesFrom : (old new : Told) → (Image → Image → Type 0) → Type 0
+LeavesFrom old new P = ForSome old.files (λ from. ForSome new.files (P from))
 
 -- where P holds of the folder before a call, the one that it leaves is in relation Q to it
 abbrev pub LeavesWhere : (old new : Told) → (Image → Type 0) → (Image → Image → Type 0) → Type 0
 LeavesWhere old new P Q = ForSome old.files (λ from. P from → ForSome new.files (Q from))
 
 -- the folder is in relation P to the one before the call, before each step and after the last
-abbrev pub Stops : (old new : Told) → (Image → Image → Type 0) → Type 0
-Stops old new P = ForSome old.files (λ from. Passes old new (P from))
+abbrev pub StopsFrom : (old new : Told) → (Image → Image → Type 0) → Type 0
+StopsFrom old new P = ForSome old.files (λ from. Passes old new (P from))
 
 -- where P holds of the folder before a call, it is in relation Q to it before each step and after the last
 abbrev pub StopsWhere : (old new : Told) → (Image → Type 0) → (Image → Image → Type 0) → Type 0

@@ -190,7 +190,7 @@ only-candidates v =
 pub frame-views : (v u : View) → candidates v ≡ candidates u → AllByRecursion (SameNamed v.store u.store) (candidates v) → kept_by held_rule v ≡ kept_by held_rule u
 frame-views v u same agree = only-candidates v ∙ kept_among-same v.store u.store held_rule (candidates v) agree ∙ ap (kept_among u.store held_rule) same ∙ sym (only-candidates u)
 
--- so do two images, and well-formed ones are found alike
+-- two images agree on that too, and well-formed ones have the same recovered contents
 pub frame-held : SameCandidatesAreHeldAlike
 unfolding kept
 frame-held a b same agree = ap (map row_of_loaded) (frame-views (completed (view_of a)) (completed (view_of b)) same agree)
