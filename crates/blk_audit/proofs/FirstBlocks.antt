@@ -14,7 +14,7 @@ use Rattle.spec_folder.specs.Chains.{file_and_block}
 use Rattle.blk_addr.specs.Claims.{is_claimed}
 use Rattle.blk_addr.proofs.ClaimLemmas.{or_comm, or_false, cond_or, is_at-nat_cmp, claims_of-blocks, has_claim-append}
 use Rattle.blk_addr.proofs.ClaimSetLemmas.{is_claimed-overlap}
-use Rattle.blk_audit.specs.Chaining.{AreReached, first_block_of, is_met}
+use Rattle.blk_audit.specs.Chaining.{AreReached, first_block_of, is_block_met}
 use Rattle.blk_audit.specs.declared.reaching.Reached.{Reached}
 use Rattle.blk_audit.proofs.Truths.{both_or_neither}
 
@@ -70,21 +70,21 @@ one_first : (w v : ℕ) → has_claim (BlockOf (file_selector w) (first_block w)
 unfolding has_claim test
 one_first w v = refl
 
-has_first : (words : List ℕ) (v : ℕ) → has_claim (claims_of_all (map first_block_of words)) (BlockOf (file_selector v) (first_block v)) ≡ is_met words v
+has_first : (words : List ℕ) (v : ℕ) → has_claim (claims_of_all (map first_block_of words)) (BlockOf (file_selector v) (first_block v)) ≡ is_block_met words v
 unfolding has_claim
 has_first [] v = refl
 has_first (w ∷ words) v =
     has_claim-append (claims_of (first_block_of w)) (claims_of_all (map first_block_of words)) (BlockOf (file_selector v) (first_block v))
     ∙ ap₂ (λ (a b : Bool). a || b) (ap (λ (cs : List Claim). has_claim cs (BlockOf (file_selector v) (first_block v))) (claims_first w) ∙ one_first w v ∙ same_first w v) (has_first words v)
 
-first_met : (words : List ℕ) (v : ℕ) → overlap (claims_of_all (map first_block_of words)) (claims_of (first_block_of v)) ≡ is_met words v
+first_met : (words : List ℕ) (v : ℕ) → overlap (claims_of_all (map first_block_of words)) (claims_of (first_block_of v)) ≡ is_block_met words v
 unfolding overlap
 first_met words v =
     ap (λ (cs : List Claim). list_any (has_claim (claims_of_all (map first_block_of words))) cs) (claims_first v)
     ∙ or_false (has_claim (claims_of_all (map first_block_of words)) (BlockOf (file_selector v) (first_block v)))
     ∙ has_first words v
 
-pub claimed_first : (reached : Reached) (v : ℕ) → AreReached reached → is_claimed reached.met (first_block_of v) ≡ is_met reached.words.items v
+pub claimed_first : (reached : Reached) (v : ℕ) → AreReached reached → is_claimed reached.met (first_block_of v) ≡ is_block_met reached.words.items v
 claimed_first reached v are = is_claimed-overlap reached.met (map first_block_of reached.words.items) (first_block_of v) are.met ∙ first_met reached.words.items v
 
 pub map_last : (f : ℕ → ℕ) (xs : List ℕ) (x : ℕ) → map f (xs ++ x ∷ []) ≡ map f xs ++ f x ∷ []

@@ -11,7 +11,7 @@ use Rattle.spec_folder.specs.Chains.{file_and_block, most_records}
 use Rattle.spec_folder.specs.View.{entry_at}
 use Rattle.blk_disk.specs.declared.tables.BlockFiles.{BlockFiles}
 use Rattle.blk_disk.specs.Tables.{is_record_among, names_among, stands_among}
-use Rattle.blk_audit.specs.Chaining.{AreReachedThere, HasEntry, HasFirst, HasRecords, IsLookedAt, IsReachedThere, IsStepTaken, is_met}
+use Rattle.blk_audit.specs.Chaining.{AreReachedThere, HasEntry, HasFirst, HasRecords, IsLookedAt, IsReachedThere, IsStepTaken, is_block_met}
 use Rattle.blk_audit.proofs.FirstBlocks.{block_by, file_by}
 use Rattle.blk_audit.proofs.PiecesOfRecords.{record_place}
 use Rattle.blk_audit.proofs.Truths.{or_first, or_second}
@@ -35,12 +35,12 @@ module _ (files : BlockFiles) (image : Image) where
       subst (λ (f : ℕ). HasRange image (Block f) (place v) 96) (sym (file_by w v same)) (subst (λ (p : ℕ). HasRange image (Block (file_selector w)) p 96) at there)
 
   -- a word whose first block was met is that of a record that is there
-  pub met_there : (words : List ℕ) (v : ℕ) → AreReachedThere files image words → is_met words v ≡ true → HasEntry files image v
+  pub met_there : (words : List ℕ) (v : ℕ) → AreReachedThere files image words → is_block_met words v ≡ true → HasEntry files image v
   met_there [] v each met is = clash met
   met_there (w ∷ words) v each met is =
       by (file_and_block w == file_and_block v) refl (each w (or_first (w == w) (is_among words w) (eq-eqb w w refl))) (λ rest. met_there words v (λ u h. each u (or_second (w == u) (is_among words u) h)) rest is) met
     where
-      by : (t : Bool) → (file_and_block w == file_and_block v) ≡ t → IsReachedThere files image w → (is_met words v ≡ true → HasRange image (Block (file_selector v)) (place v) 96) → (t || is_met words v) ≡ true → HasRange image (Block (file_selector v)) (place v) 96
+      by : (t : Bool) → (file_and_block w == file_and_block v) ≡ t → IsReachedThere files image w → (is_block_met words v ≡ true → HasRange image (Block (file_selector v)) (place v) 96) → (t || is_block_met words v) ≡ true → HasRange image (Block (file_selector v)) (place v) 96
       by true e here rest h = one_place w v (record_kind files w here.named) (record_kind files v is) (eqb-true (file_and_block w) (file_and_block v) e) here.there
       by false e here rest h = rest h
 

@@ -83,8 +83,8 @@ abbrev pub AreOfFirst : StoreView → ℕ → List ℕ → Type 0
 AreOfFirst store n words = (w : ℕ) → is_among words w ≡ true → IsOfFirst store n w
 
 -- the first block of address w is that of one of the words
-abbrev pub is_met : List ℕ → ℕ → Bool
-is_met words w = is_among (map file_and_block words) (file_and_block w)
+abbrev pub is_block_met : List ℕ → ℕ → Bool
+is_block_met words w = is_among (map file_and_block words) (file_and_block w)
 
 -- one step along a chain, at word w: it ends there, and nothing more is reached; or it reaches the record of w and goes on at `next`
 abbrev pub IsReach : StoreView → ℕ → List ℕ → ℕ → List ℕ → Option ℕ → Type 0

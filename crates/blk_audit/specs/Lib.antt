@@ -9,6 +9,7 @@ pub mod Nodes
 pub mod Pieces
 pub mod ReadLists
 pub mod Records
+pub mod ScanClauses
 pub mod SealLaws
 pub mod Sealable
 pub mod Walking

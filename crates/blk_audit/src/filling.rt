@@ -1,13 +1,13 @@
 // Nodes that are read side by side, many by one folder call.
-ghost use Rattle.std.specs.Prelude.{◌≡◌, ◌+◌, ◌*◌, ◌≤◌, ◌<◌, ◌++◌, length, None, OnOk};
+ghost use Rattle.std.specs.Prelude.{◌≡◌, ◌+◌, ◌*◌, ◌≤◌, ◌<◌, ◌++◌, length, OnOk};
 ghost use Rattle.std.specs.Option.{ForSome};
-ghost use Rattle.spec_image.specs.Image.{Block as block, HasRange, byte};
 ghost use Rattle.spec_image.specs.Told.{ReadsOnly};
 ghost use Rattle.spec_format.specs.Address.{header_size};
 ghost use Rattle.spec_format.specs.Records.{node_size};
 ghost use Rattle.blk_audit.specs.Faults.{IfScanDamaged, IfScanDevice, IsShortOfNodes};
-ghost use Rattle.blk_audit.specs.Filling.{node_said, nodes_in, nodes_from};
+ghost use Rattle.blk_audit.specs.Filling.{node_said, nodes_in};
 ghost use Rattle.blk_audit.specs.Pieces.{nodes_of_piece};
+ghost use Rattle.blk_audit.specs.ScanClauses.{HasNodesAt, AddsNodesAt, ScanUndamagedWhere};
 
 use crate::fault::ScanFault;
 use crate::nodes::Node;
@@ -59,11 +59,11 @@ fn read_piece<F: Folder>(
 ) -> Result<(), ScanFault>
     requires few { count ≤ nodes_of_piece }
     requires size { length bytes.old ≡ node_size * count }
-    ensures nodes { OnOk result (ForSome (F.told folder.old).files (λ image. nodes.new.items ≡ nodes.old.items ++ nodes_from (byte image (block file)) (header_size + first * node_size) count)) }
-    ensures checked { OnOk result (ForSome (F.told folder.old).files (λ image. 0 < count → HasRange image (block file) (header_size + first * node_size) (node_size * count))) }
+    ensures nodes { OnOk result (ForSome (F.told folder.old).files (AddsNodesAt file (header_size + first * node_size) count nodes.old.items nodes.new.items)) }
+    ensures checked { OnOk result (ForSome (F.told folder.old).files (λ image. 0 < count → HasNodesAt file (header_size + first * node_size) count image)) }
     ensures reads { ReadsOnly F.told F.faults folder.old folder.new (IfScanDevice result) }
     ensures damaged { IfScanDamaged result (IsShortOfNodes (F.told folder.new) file) }
-    ensures untold { ForSome (F.told folder.new).files (λ image. HasRange image (block file) (header_size + first * node_size) (node_size * count)) → IfScanDamaged result (λ _. (F.told folder.new).files ≡ None) }
+    ensures untold { ScanUndamagedWhere result (F.told folder.new) (HasNodesAt file (header_size + first * node_size) count) }
 {
     let at = BlockHead::HEADER_LEN + u64::from(first) * NodeView::SIZE as u64;
     read_exact(folder, FileId::Block(file), at, bytes)?;
@@ -79,11 +79,11 @@ pub(crate) fn read_file<F: Folder>(
     nodes: &mut Vec<Node>,
 ) -> Result<(), ScanFault>
     requires few { count ≤ 65536 }
-    ensures nodes { OnOk result (ForSome (F.told folder.old).files (λ image. nodes.new.items ≡ nodes.old.items ++ nodes_from (byte image (block file)) header_size count)) }
-    ensures checked { OnOk result (ForSome (F.told folder.old).files (λ image. 0 < count → HasRange image (block file) header_size (node_size * count))) }
+    ensures nodes { OnOk result (ForSome (F.told folder.old).files (AddsNodesAt file header_size count nodes.old.items nodes.new.items)) }
+    ensures checked { OnOk result (ForSome (F.told folder.old).files (λ image. 0 < count → HasNodesAt file header_size count image)) }
     ensures reads { ReadsOnly F.told F.faults folder.old folder.new (IfScanDevice result) }
     ensures damaged { IfScanDamaged result (IsShortOfNodes (F.told folder.new) file) }
-    ensures untold { ForSome (F.told folder.new).files (λ image. 0 < count → HasRange image (block file) header_size (node_size * count)) → IfScanDamaged result (λ _. (F.told folder.new).files ≡ None) }
+    ensures untold { ScanUndamagedWhere result (F.told folder.new) (λ image. 0 < count → HasNodesAt file header_size count image) }
 {
     let mut buffer = [0u8; NodeView::SIZE * NODES_OF_PIECE];
     let mut first: u32 = 0;

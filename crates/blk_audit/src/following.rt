@@ -1,14 +1,15 @@
 // The chain of one bucket, followed from a word on.
-ghost use Rattle.std.specs.Prelude.{◌≡◌, ◌<◌, ◌≤◌, ◌++◌, [], IfOk, OnOk, None, length};
+ghost use Rattle.std.specs.Prelude.{◌<◌, ◌≤◌, OnOk, None, length};
 ghost use Rattle.std.specs.Option.{ForSome};
 ghost use Rattle.spec_image.specs.Told.{ReadsOnly};
 ghost use Rattle.spec_format.specs.Headers.{table_length};
 ghost use Rattle.spec_folder.specs.View.{store_of};
-ghost use Rattle.spec_folder.specs.Chains.{chain_from, most_records};
+ghost use Rattle.blk_io.specs.Faults.{OkFor};
 ghost use Rattle.blk_disk.specs.Tables.{Agrees};
 ghost use Rattle.blk_audit.specs.Faults.{IfScanDamaged, IfScanDevice, IsRecordDamage};
 ghost use Rattle.blk_audit.specs.Records.{AreRecordsOf};
-ghost use Rattle.blk_audit.specs.Chaining.{AreOfFirst, AreReached, AreReachedThere, HasEntry, HasRecords, IsLookedAt, IsReach, IsStepTaken, KeepsEnds, RecordsStand, words_reached};
+ghost use Rattle.blk_audit.specs.Chaining.{AreOfFirst, AreReached, AreReachedThere, HasEntry, HasRecords, IsLookedAt, KeepsEnds, RecordsStand, words_reached};
+ghost use Rattle.blk_audit.specs.ScanClauses.{AddsChainFrom, IsChainEnd, TakesStep, StepsAlong, ScanUndamagedWhere};
 
 use crate::fault::ScanFault;
 use crate::reaching::Reached;
@@ -40,13 +41,13 @@ pub(crate) fn follow<F: Folder>(
     ensures checked { OnOk result (ForSome (F.told folder.old).files (λ image. HasRecords files.now image (words_reached reached.new))) }
     ensures looked { OnOk result (ForSome (F.told folder.old).files (λ image. IsLookedAt files.now image (words_reached reached.new) start)) }
     ensures more { OnOk result (ForSome (F.told folder.old).files (λ image. length (words_reached reached.old) ≤ length (words_reached reached.new))) }
-    ensures reached { OnOk result (ForSome (F.told folder.old).files (λ image. Agrees files.now image → words_reached reached.new ≡ words_reached reached.old ++ (chain_from (store_of image) bucket most_records [] start).reached)) }
-    ensures end { IfOk result (λ end. ForSome (F.told folder.old).files (λ image. Agrees files.now image → end ≡ (chain_from (store_of image) bucket most_records [] start).end)) }
+    ensures reached { OnOk result (ForSome (F.told folder.old).files (AddsChainFrom files.now bucket start reached.old reached.new)) }
+    ensures end { OkFor result (F.told folder.old) (IsChainEnd files.now bucket start) }
     ensures stand { OnOk result (RecordsStand files.now (words_reached reached.new)) }
     ensures ends { OnOk result (KeepsEnds reached.old reached.new) }
     ensures reads { ReadsOnly F.told F.faults folder.old folder.new (IfScanDevice result) }
     ensures damaged { IfScanDamaged result (IsRecordDamage files.now (F.told folder.new)) }
-    ensures untold { ForSome (F.told folder.new).files (Agrees files.now) → IfScanDamaged result (λ _. (F.told folder.new).files ≡ None) }
+    ensures untold { ScanUndamagedWhere result (F.told folder.new) (Agrees files.now) }
 {
     let mut word = start;
     for i in 0..MOST_RECORDS {
@@ -77,11 +78,11 @@ fn reach<F: Folder>(
     ensures stand { OnOk result (RecordsStand files.now (words_reached reached.new)) }
     ensures ends { OnOk result (KeepsEnds reached.old reached.new) }
     ensures checked { OnOk result (ForSome (F.told folder.old).files (λ image. HasEntry files.now image word)) }
-    ensures taken { IfOk result (λ next. ForSome (F.told folder.old).files (λ image. IsStepTaken files.now image (words_reached reached.old) word (words_reached reached.new) next)) }
-    ensures step { IfOk result (λ next. ForSome (F.told folder.old).files (λ image. Agrees files.now image → IsReach (store_of image) bucket (words_reached reached.old) word (words_reached reached.new) next)) }
+    ensures taken { OkFor result (F.told folder.old) (TakesStep files.now word reached.old reached.new) }
+    ensures step { OkFor result (F.told folder.old) (StepsAlong files.now bucket word reached.old reached.new) }
     ensures reads { ReadsOnly F.told F.faults folder.old folder.new (IfScanDevice result) }
     ensures damaged { IfScanDamaged result (IsRecordDamage files.now (F.told folder.new)) }
-    ensures untold { ForSome (F.told folder.new).files (Agrees files.now) → IfScanDamaged result (λ _. (F.told folder.new).files ≡ None) }
+    ensures untold { ScanUndamagedWhere result (F.told folder.new) (Agrees files.now) }
 {
     let Some(addr) = files.entry(word) else {
         return Ok(None);

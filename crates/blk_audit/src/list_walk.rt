@@ -1,15 +1,13 @@
 // The walk of the LRU list.
-ghost use Rattle.std.specs.Prelude.{◌≡◌, ℕ, IfOk, OnOk, MatchOption, None, length, map, slice_get};
+ghost use Rattle.std.specs.Prelude.{◌≡◌, IfOk, OnOk, MatchOption, None, length, map, slice_get};
 ghost use Rattle.spec_format.specs.BlockFiles.{is_among};
 ghost use Rattle.spec_folder.specs.ListView.{after_writes};
 ghost use Rattle.spec_folder.specs.Walk as walking;
 ghost use Rattle.blk_lru.specs.Writes.{meant};
-ghost use Rattle.spec_folder.specs.ListPlans.{completion_writes};
-ghost use Rattle.spec_image.specs.Image.{Image};
-ghost use Rattle.spec_folder.specs.View.{list_of};
 ghost use Rattle.spec_folder.specs.ListImages.{completed_walk};
-ghost use Rattle.blk_audit.specs.Nodes.{list_in, loaded_node, AreNodesOf};
-ghost use Rattle.blk_audit.specs.Walking.{AreMet, IsAdded, IsNodeWord, IsStanding, IsWalkStep};
+ghost use Rattle.blk_audit.specs.Nodes.{list_in, loaded_node};
+ghost use Rattle.blk_audit.specs.Walking.{AreMet, IsAdded, IsNodeWord, IsStanding};
+ghost use Rattle.blk_audit.specs.ScanClauses.{ForRedo, WalksStep};
 
 use crate::changes::{head_after, next_after, prev_after};
 use crate::nodes::{Node, Nodes};
@@ -49,7 +47,7 @@ pub(crate) fn walk_nodes(
     ensures met { IfOk result AreMet }
 
     // With the nodes of a folder, its head and what the redo would write, it is the walk that the redo leaves.
-    ensures completed { (image : Image) → AreNodesOf image nodes.now → head ≡ (list_of image).head → map meant writes.now ≡ completion_writes (list_of image) → IfOk result (λ walk. walk.nodes.items ≡ completed_walk image) }
+    ensures completed { ForRedo nodes.now head writes.now (λ image. IfOk result (λ walk. walk.nodes.items ≡ completed_walk image)) }
 {
     let mut walk = Walked {
         nodes: Vec::new(alloc),
@@ -78,7 +76,7 @@ fn visit(
 ) -> Result<Option<Link>, NoMemory>
     requires met { AreMet walk.old }
     ensures met { OnOk result (AreMet walk.new) }
-    ensures step { IfOk result (λ next. (head : ℕ) → IsWalkStep (after_writes (map meant writes.now) (list_in nodes.now head)) walk.old.nodes.items link walk.new.nodes.items next) }
+    ensures step { IfOk result (WalksStep nodes.now writes.now link walk.old walk.new) }
 {
     let Some(here) = node_named(nodes, link.word) else {
         return Ok(None);

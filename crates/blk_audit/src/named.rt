@@ -1,16 +1,16 @@
 // The records that walked nodes name.
-ghost use Rattle.std.specs.Prelude.{◌≡◌, ◌≤◌, ℕ, IfOk, IfSome, IsTrue, MatchOption, None, OnOk, false, length, slice_get};
-ghost use Rattle.std.specs.Option.{ForSome};
+ghost use Rattle.std.specs.Prelude.{◌≡◌, ℕ, IfOk, IfSome, IsTrue, MatchOption, None, OnOk, false, slice_get};
 ghost use Rattle.spec_image.specs.Image.{Image};
 ghost use Rattle.spec_image.specs.Told.{ReadsOnly};
 ghost use Rattle.spec_format.specs.Address.{blocks_256, kind_of};
-ghost use Rattle.blk_io.specs.Faults.{IfDamaged, IfDevice};
+ghost use Rattle.blk_io.specs.Faults.{IfDamaged, IfDevice, UndamagedWhere, OkFor};
 ghost use Rattle.blk_disk.specs.Tables.{Agrees, stands_among};
 ghost use Rattle.blk_audit.specs.Faults.{IsRecordDamage};
 ghost use Rattle.blk_audit.specs.ReadLists as shown;
-ghost use Rattle.blk_audit.specs.ReadLists.{AreListsOf, AreNamed, IsMore, IsWalkedNode, record_by};
+ghost use Rattle.blk_audit.specs.ReadLists.{AreListsOf, AreNamed, IsMore, record_by};
 ghost use Rattle.blk_audit.specs.Records.{IsSaidBy};
 ghost use Rattle.blk_audit.specs.Walking.{nodes_walked};
+ghost use Rattle.blk_audit.specs.ScanClauses.{FindsWalkedNode};
 
 use crate::list_walk::{Walked, node_named};
 use crate::nodes::{Node, Nodes};
@@ -38,7 +38,7 @@ pub struct WalkedNode {
 impl Lists {
     /// A walked node, counted from 0.
     pub fn node(&self, i: usize) -> Option<WalkedNode>
-        ensures { (image : Image) → AreListsOf image self.now → MatchOption result (length (nodes_walked self.now.walked) ≤ i) (IsWalkedNode image self.now.walked i) }
+        ensures { FindsWalkedNode self.now i result }
     {
         let Some(addr) = self.walked.at(i) else {
             return None;
@@ -63,10 +63,10 @@ impl Lists {
     ) -> Result<ReadRecord, Fault>
         requires kind { kind_of entry ≡ blocks_256 }
         requires stands { IsTrue (stands_among files.now entry) }
-        ensures said { IfOk result (λ said. ForSome (F.told folder.old).files (λ image. AreListsOf image self.now → IsSaidBy image entry said)) }
+        ensures said { OkFor result (F.told folder.old) (λ said image. AreListsOf image self.now → IsSaidBy image entry said) }
         ensures reads { ReadsOnly F.told F.faults folder.old folder.new (IfDevice result) }
         ensures damaged { IfDamaged result (IsRecordDamage files.now (F.told folder.new)) }
-        ensures untold { ForSome (F.told folder.new).files (Agrees files.now) → IfDamaged result (λ _. (F.told folder.new).files ≡ None) }
+        ensures untold { UndamagedWhere result (F.told folder.new) (Agrees files.now) }
     {
         record_of(folder, files, &self.records, entry)
     }

@@ -1,5 +1,5 @@
 // The nodes of a folder, as they were read.
-ghost use Rattle.std.specs.Prelude.{◌≡◌, ◌≢◌, ℕ, ◌<◌, ◌==◌, if◌then◌else◌, None, Some, IfSome, OnOk, length};
+ghost use Rattle.std.specs.Prelude.{◌≡◌, ◌<◌, ◌==◌, if◌then◌else◌, None, Some, IfSome, OnOk, length};
 ghost use Rattle.std.specs.Option.{ForSome};
 ghost use Rattle.spec_image.specs.Told.{ReadsOnly};
 ghost use Rattle.blk_disk.specs.Tables.{Agrees};
@@ -41,6 +41,7 @@ pub(crate) struct Nodes {
 impl Nodes {
     ghost use Rattle.blk_audit.specs.Filled.{CountStands, AreNodesFilled};
     ghost use Rattle.blk_audit.specs.Nodes.{node_of};
+    ghost use Rattle.blk_audit.specs.ScanClauses.{KeepsOthersFilled, KeepsOthersCounted, ScanUndamagedWhere};
 
     // No nodes.
     pub(crate) fn none(alloc: Global) -> Nodes {
@@ -59,12 +60,12 @@ impl Nodes {
         file: u8,
     ) -> Result<(), ScanFault>
         ensures here { OnOk result (ForSome (F.told folder.old).files (λ image. AreNodesFilled files.now image self.new file)) }
-        ensures others { OnOk result (ForSome (F.told folder.old).files (λ image. (n : ℕ) → n ≢ file → AreNodesFilled files.now image self.old n → AreNodesFilled files.now image self.new n)) }
+        ensures others { OnOk result (ForSome (F.told folder.old).files (KeepsOthersFilled files.now file self.old self.new)) }
         ensures counted { OnOk result (CountStands files.now self.new file) }
-        ensures others_counted { OnOk result ((n : ℕ) → n ≢ file → CountStands files.now self.old n → CountStands files.now self.new n) }
+        ensures others_counted { OnOk result (KeepsOthersCounted files.now file self.old self.new) }
         ensures reads { ReadsOnly F.told F.faults folder.old folder.new (IfScanDevice result) }
         ensures damaged { IfScanDamaged result (IsNodesDamage (F.told folder.new)) }
-        ensures untold { ForSome (F.told folder.new).files (Agrees files.now) → IfScanDamaged result (λ _. (F.told folder.new).files ≡ None) }
+        ensures untold { ScanUndamagedWhere result (F.told folder.new) (Agrees files.now) }
     {
         let count = count_there(files, file);
         let Ok(begin) = u32::try_from(self.nodes.as_slice().len()) else {

@@ -1,5 +1,5 @@
 // The chains of the table.
-ghost use Rattle.std.specs.Prelude.{◌≡◌, ◌≤◌, ◌+◌, ◌++◌, [], ◌∷◌, IfOk, OnOk, None, false, length, slice_get};
+ghost use Rattle.std.specs.Prelude.{◌≡◌, ◌≤◌, ◌+◌, ◌++◌, [], ◌∷◌, IfOk, OnOk, false, length, slice_get};
 ghost use Rattle.std.specs.Option.{ForSome};
 ghost use Rattle.spec_image.specs.Image.{HasRange, Index as index};
 ghost use Rattle.spec_image.specs.Told.{ReadsOnly};
@@ -7,12 +7,14 @@ ghost use Rattle.spec_format.specs.Address.{blocks_256, kind_of};
 ghost use Rattle.spec_format.specs.BlockFiles.{is_among};
 ghost use Rattle.spec_format.specs.Headers.{place_of_bucket, table_length};
 ghost use Rattle.spec_folder.specs.View.{store_of};
+ghost use Rattle.blk_io.specs.Faults.{OkFor};
 ghost use Rattle.blk_disk.specs.Open.{IsOpen};
 ghost use Rattle.blk_disk.specs.Tables.{Agrees};
 ghost use Rattle.blk_index.specs.Table.{AreBuckets, buckets_of_piece, table_piece_length};
 ghost use Rattle.blk_audit.specs.Faults.{IfScanDamaged, IfScanDevice, IsChainsDamage, IsRecordDamage};
 ghost use Rattle.blk_audit.specs.Records.{AreRecordsOf};
-ghost use Rattle.blk_audit.specs.Chaining.{AreBucketsOf, AreFirstReached, AreReached, AreChainsThere, HasBuckets, HasFirst, KeepsEnds, RecordsStand, is_met, reached_by, words_reached};
+ghost use Rattle.blk_audit.specs.Chaining.{AreBucketsOf, AreReached, AreChainsThere, HasBuckets, KeepsEnds, RecordsStand, is_block_met, words_reached};
+ghost use Rattle.blk_audit.specs.ScanClauses.{HasFirstChains, FollowsFirst, ReachesAllChains, ScanUndamagedWhere};
 
 use crate::fault::ScanFault;
 use crate::following::follow;
@@ -104,7 +106,7 @@ impl Reached {
     pub(crate) fn has(&self, addr: Addr) -> bool
         requires kind { kind_of addr ≡ blocks_256 }
         requires reached { AreReached self.now }
-        ensures { result ≡ is_met (words_reached self.now) addr }
+        ensures { result ≡ is_block_met (words_reached self.now) addr }
     {
         self.met.has(first_of_record(addr))
     }
@@ -113,7 +115,7 @@ impl Reached {
     pub(crate) fn add(&mut self, addr: Addr) -> Result<(), NoMemory>
         requires kind { kind_of addr ≡ blocks_256 }
         requires reached { AreReached self.old }
-        requires fresh { is_met (words_reached self.old) addr ≡ false }
+        requires fresh { is_block_met (words_reached self.old) addr ≡ false }
         ensures reached { OnOk result (AreReached self.new) }
         ensures added { OnOk result (words_reached self.new ≡ words_reached self.old ++ addr ∷ []) }
         ensures ends { OnOk result (KeepsEnds self.old self.new) }
@@ -153,17 +155,17 @@ pub fn chains<F: Folder>(
     files: &BlockFiles,
     named: &Claims,
 ) -> Result<Reached, ScanFault>
-    ensures reached { IfOk result (λ reached. ForSome (F.told folder.old).files (λ image. Agrees files.now image → words_reached reached ≡ reached_by (store_of image) table_length)) }
-    ensures buckets { IfOk result (λ reached. ForSome (F.told folder.old).files (λ image. Agrees files.now image → AreBucketsOf (store_of image) reached)) }
+    ensures reached { OkFor result (F.told folder.old) (ReachesAllChains files.now) }
+    ensures buckets { OkFor result (F.told folder.old) (λ reached image. Agrees files.now image → AreBucketsOf (store_of image) reached) }
     ensures met { IfOk result AreReached }
     ensures stand { IfOk result (λ reached. RecordsStand files.now (words_reached reached)) }
     ensures ends { IfOk result HasBuckets }
-    ensures checked { IfOk result (λ reached. ForSome (F.told folder.old).files (λ image. AreChainsThere files.now image (words_reached reached))) }
+    ensures checked { OkFor result (F.told folder.old) (λ reached image. AreChainsThere files.now image (words_reached reached)) }
     ensures reads { ReadsOnly F.told F.faults folder.old folder.new (IfScanDevice result) }
 
     // An observable folder reports corruption only where its index is too short or the block files don't agree with it.
     ensures damaged { IfScanDamaged result (IsChainsDamage files.now (F.told folder.new)) }
-    ensures untold { ForSome (F.told folder.old).files (IsOpen files.now) → IfScanDamaged result (λ _. (F.told folder.old).files ≡ None) }
+    ensures untold { ScanUndamagedWhere result (F.told folder.old) (IsOpen files.now) }
 {
     let records = read_records(alloc, folder, files, named)?;
     chains_over(alloc, folder, files, &records)
@@ -177,15 +179,15 @@ pub(crate) fn chains_over<F: Folder>(
     records: &Records,
 ) -> Result<Reached, ScanFault>
     requires records { ForSome (F.told folder.old).files (λ image. AreRecordsOf image records.now) }
-    ensures reached { IfOk result (λ reached. ForSome (F.told folder.old).files (λ image. Agrees files.now image → words_reached reached ≡ reached_by (store_of image) table_length)) }
-    ensures buckets { IfOk result (λ reached. ForSome (F.told folder.old).files (λ image. Agrees files.now image → AreBucketsOf (store_of image) reached)) }
+    ensures reached { OkFor result (F.told folder.old) (ReachesAllChains files.now) }
+    ensures buckets { OkFor result (F.told folder.old) (λ reached image. Agrees files.now image → AreBucketsOf (store_of image) reached) }
     ensures met { IfOk result AreReached }
     ensures stand { IfOk result (λ reached. RecordsStand files.now (words_reached reached)) }
     ensures ends { IfOk result HasBuckets }
-    ensures checked { IfOk result (λ reached. ForSome (F.told folder.old).files (λ image. AreChainsThere files.now image (words_reached reached))) }
+    ensures checked { OkFor result (F.told folder.old) (λ reached image. AreChainsThere files.now image (words_reached reached)) }
     ensures reads { ReadsOnly F.told F.faults folder.old folder.new (IfScanDevice result) }
     ensures damaged { IfScanDamaged result (IsChainsDamage files.now (F.told folder.new)) }
-    ensures untold { ForSome (F.told folder.old).files (IsOpen files.now) → IfScanDamaged result (λ _. (F.told folder.old).files ≡ None) }
+    ensures untold { ScanUndamagedWhere result (F.told folder.old) (IsOpen files.now) }
 {
     let mut reached = Reached::none(alloc);
     for piece in 0..PIECES {
@@ -206,19 +208,19 @@ fn follow_piece<F: Folder>(
     requires inside { first + buckets_of_piece ≤ table_length }
     requires records { ForSome (F.told folder.old).files (λ image. AreRecordsOf image records.now) }
     requires met { AreReached reached.old }
-    requires there { ForSome (F.told folder.old).files (λ image. HasFirst files.now image (words_reached reached.old) first) }
-    requires before { ForSome (F.told folder.old).files (λ image. Agrees files.now image → AreFirstReached (store_of image) first reached.old) }
+    requires there { ForSome (F.told folder.old).files (HasFirstChains files.now reached.old first) }
+    requires before { ForSome (F.told folder.old).files (FollowsFirst files.now first reached.old) }
     requires stand { RecordsStand files.now (words_reached reached.old) }
     requires many { length reached.old.ends.items ≡ first }
     ensures met { OnOk result (AreReached reached.new) }
-    ensures checked { OnOk result (ForSome (F.told folder.old).files (λ image. HasFirst files.now image (words_reached reached.new) (first + buckets_of_piece))) }
+    ensures checked { OnOk result (ForSome (F.told folder.old).files (HasFirstChains files.now reached.new (first + buckets_of_piece))) }
     ensures table { OnOk result (ForSome (F.told folder.old).files (λ image. HasRange image index (place_of_bucket first) table_piece_length)) }
-    ensures reached { OnOk result (ForSome (F.told folder.old).files (λ image. Agrees files.now image → AreFirstReached (store_of image) (first + buckets_of_piece) reached.new)) }
+    ensures reached { OnOk result (ForSome (F.told folder.old).files (FollowsFirst files.now (first + buckets_of_piece) reached.new)) }
     ensures stand { OnOk result (RecordsStand files.now (words_reached reached.new)) }
     ensures many { OnOk result (length reached.new.ends.items ≡ first + buckets_of_piece) }
     ensures reads { ReadsOnly F.told F.faults folder.old folder.new (IfScanDevice result) }
     ensures damaged { IfScanDamaged result (IsChainsDamage files.now (F.told folder.new)) }
-    ensures untold { ForSome (F.told folder.new).files (IsOpen files.now) → IfScanDamaged result (λ _. (F.told folder.new).files ≡ None) }
+    ensures untold { ScanUndamagedWhere result (F.told folder.new) (IsOpen files.now) }
 {
     let mut table = [0u32; BUCKETS_OF_PIECE];
     buckets(folder, first, &mut table)?;
@@ -239,18 +241,18 @@ fn follow_all<F: Folder>(
     requires records { ForSome (F.told folder.old).files (λ image. AreRecordsOf image records.now) }
     requires words { ForSome (F.told folder.old).files (λ image. AreBuckets image first table.now) }
     requires met { AreReached reached.old }
-    requires there { ForSome (F.told folder.old).files (λ image. HasFirst files.now image (words_reached reached.old) first) }
-    requires before { ForSome (F.told folder.old).files (λ image. Agrees files.now image → AreFirstReached (store_of image) first reached.old) }
+    requires there { ForSome (F.told folder.old).files (HasFirstChains files.now reached.old first) }
+    requires before { ForSome (F.told folder.old).files (FollowsFirst files.now first reached.old) }
     requires stand { RecordsStand files.now (words_reached reached.old) }
     requires many { length reached.old.ends.items ≡ first }
     ensures met { OnOk result (AreReached reached.new) }
-    ensures checked { OnOk result (ForSome (F.told folder.old).files (λ image. HasFirst files.now image (words_reached reached.new) (first + length table.now))) }
-    ensures reached { OnOk result (ForSome (F.told folder.old).files (λ image. Agrees files.now image → AreFirstReached (store_of image) (first + length table.now) reached.new)) }
+    ensures checked { OnOk result (ForSome (F.told folder.old).files (HasFirstChains files.now reached.new (first + length table.now))) }
+    ensures reached { OnOk result (ForSome (F.told folder.old).files (FollowsFirst files.now (first + length table.now) reached.new)) }
     ensures stand { OnOk result (RecordsStand files.now (words_reached reached.new)) }
     ensures many { OnOk result (length reached.new.ends.items ≡ first + length table.now) }
     ensures reads { ReadsOnly F.told F.faults folder.old folder.new (IfScanDevice result) }
     ensures damaged { IfScanDamaged result (IsRecordDamage files.now (F.told folder.new)) }
-    ensures untold { ForSome (F.told folder.new).files (Agrees files.now) → IfScanDamaged result (λ _. (F.told folder.new).files ≡ None) }
+    ensures untold { ScanUndamagedWhere result (F.told folder.new) (Agrees files.now) }
 {
     for i in 0..table.len() {
         let bucket = u32::from(first) + i as u32;

@@ -1,19 +1,19 @@
 // Records that are read many by one folder call.
-ghost use Rattle.std.specs.Prelude.{◌≡◌, ◌+◌, ◌*◌, ◌≤◌, ◌<◌, IfOk, IfSome, IsTrue, OnOk, None, length, slice_get};
+ghost use Rattle.std.specs.Prelude.{◌≡◌, ◌+◌, ◌*◌, ◌≤◌, ◌<◌, IfSome, IsTrue, OnOk, None, length, slice_get};
 ghost use Rattle.std.specs.List.{list_any, range_with_len};
 ghost use Rattle.std.specs.Option.{ForSome};
-ghost use Rattle.spec_image.specs.Bytes.{range_at};
-ghost use Rattle.spec_image.specs.Image.{AreBytes, Block as block, HasRange, Image, byte};
+ghost use Rattle.spec_image.specs.Image.{Block as block, Image};
 ghost use Rattle.spec_image.specs.Told.{ReadsOnly};
-ghost use Rattle.spec_format.specs.Address.{blocks_256, header_size, kind_of};
+ghost use Rattle.spec_format.specs.Address.{blocks_256, kind_of};
 ghost use Rattle.spec_format.specs.Claims.{BlockOf};
 ghost use Rattle.spec_format.specs.Records.{entry_size};
 ghost use Rattle.blk_addr.specs.Claims.{contains_claim};
-ghost use Rattle.blk_io.specs.Faults.{IfDamaged, IfDevice};
+ghost use Rattle.blk_io.specs.Faults.{IfDamaged, IfDevice, UndamagedWhere, OkFor};
 ghost use Rattle.blk_disk.specs.Tables.{Agrees, stands_among};
 ghost use Rattle.blk_audit.specs.Faults.{IfScanDamaged, IfScanDevice, IsRecordDamage, IsRecordsDamage};
-ghost use Rattle.blk_audit.specs.Pieces.{blocks_of_piece, piece_length, record_block_size};
+ghost use Rattle.blk_audit.specs.Pieces.{blocks_of_piece, piece_length};
 ghost use Rattle.blk_audit.specs.Records.{AreRecordsOf, IsSaidBy};
+ghost use Rattle.blk_audit.specs.ScanClauses.{HasRecordBytes, AddsRecordsAt, ScanUndamagedWhere};
 
 use crate::fault::ScanFault;
 use crate::record_words::read_words;
@@ -98,7 +98,7 @@ impl Records {
     ) -> Result<(), NoMemory>
         requires inside { first + blocks_of_piece ≤ 65536 }
         requires size { length bytes.now ≡ piece_length }
-        ensures { OnOk result ((image : Image) → AreBytes image → HasRange image (block file) (header_size + first * record_block_size) piece_length → bytes.now ≡ range_at (byte image (block file)) (header_size + first * record_block_size) piece_length → AreRecordsOf image self.old → AreRecordsOf image self.new) }
+        ensures { OnOk result (AddsRecordsAt file first piece_length bytes.now self.old self.new) }
     {
         for i in 0..BLOCKS_OF_PIECE {
             let at = BLOCK * i as usize;
@@ -111,7 +111,7 @@ impl Records {
     fn add(&mut self, named: &Claims, file: u8, start: u32, bytes: &[u8]) -> Result<(), NoMemory>
         requires small { start < 65536 }
         requires size { entry_size ≤ length bytes.now }
-        ensures { OnOk result ((image : Image) → AreBytes image → HasRange image (block file) (header_size + start * record_block_size) (length bytes.now) → bytes.now ≡ range_at (byte image (block file)) (header_size + start * record_block_size) (length bytes.now) → AreRecordsOf image self.old → AreRecordsOf image self.new) }
+        ensures { OnOk result (AddsRecordsAt file start (length bytes.now) bytes.now self.old self.new) }
     {
         if !named.has_block(file, start) {
             return Ok(());
@@ -134,7 +134,7 @@ impl Records {
         ensures records { OnOk result (ForSome (F.told folder.old).files (λ image. AreRecordsOf image self.old → AreRecordsOf image self.new)) }
         ensures reads { ReadsOnly F.told F.faults folder.old folder.new (IfScanDevice result) }
         ensures damaged { IfScanDamaged result (IsRecordsDamage (F.told folder.new)) }
-        ensures untold { ForSome (F.told folder.new).files (λ image. HasRange image (block file) (header_size + first * record_block_size) piece_length) → IfScanDamaged result (λ _. (F.told folder.new).files ≡ None) }
+        ensures untold { ScanUndamagedWhere result (F.told folder.new) (HasRecordBytes file first piece_length) }
     {
         if !has_named(named, file, first) {
             return Ok(());
@@ -157,7 +157,7 @@ impl Records {
         ensures records { OnOk result (ForSome (F.told folder.old).files (λ image. AreRecordsOf image self.old → AreRecordsOf image self.new)) }
         ensures reads { ReadsOnly F.told F.faults folder.old folder.new (IfScanDevice result) }
         ensures damaged { IfScanDamaged result (IsRecordsDamage (F.told folder.new)) }
-        ensures untold { ForSome (F.told folder.new).files (Agrees files.now) → IfScanDamaged result (λ _. (F.told folder.new).files ≡ None) }
+        ensures untold { ScanUndamagedWhere result (F.told folder.new) (Agrees files.now) }
     {
         for piece in 0..PIECES {
             let first = piece * BLOCKS_OF_PIECE;
@@ -186,10 +186,10 @@ pub(crate) fn read_records<F: Folder>(
     files: &BlockFiles,
     named: &Claims,
 ) -> Result<Records, ScanFault>
-    ensures records { IfOk result (λ records. ForSome (F.told folder.old).files (λ image. AreRecordsOf image records)) }
+    ensures records { OkFor result (F.told folder.old) (λ records image. AreRecordsOf image records) }
     ensures reads { ReadsOnly F.told F.faults folder.old folder.new (IfScanDevice result) }
     ensures damaged { IfScanDamaged result (IsRecordsDamage (F.told folder.new)) }
-    ensures untold { ForSome (F.told folder.new).files (Agrees files.now) → IfScanDamaged result (λ _. (F.told folder.new).files ≡ None) }
+    ensures untold { ScanUndamagedWhere result (F.told folder.new) (Agrees files.now) }
 {
     let mut records = Records {
         placed: Vec::new(alloc),
@@ -209,10 +209,10 @@ pub(crate) fn record_of<F: Folder>(
 ) -> Result<ReadRecord, Fault>
     requires kind { kind_of addr ≡ blocks_256 }
     requires stands { IsTrue (stands_among files.now addr) }
-    ensures said { IfOk result (λ said. ForSome (F.told folder.old).files (λ image. AreRecordsOf image records.now → IsSaidBy image addr said)) }
+    ensures said { OkFor result (F.told folder.old) (λ said image. AreRecordsOf image records.now → IsSaidBy image addr said) }
     ensures reads { ReadsOnly F.told F.faults folder.old folder.new (IfDevice result) }
     ensures damaged { IfDamaged result (IsRecordDamage files.now (F.told folder.new)) }
-    ensures untold { ForSome (F.told folder.new).files (Agrees files.now) → IfDamaged result (λ _. (F.told folder.new).files ≡ None) }
+    ensures untold { UndamagedWhere result (F.told folder.new) (Agrees files.now) }
 {
     match records.get(addr) {
         Some(said) => Ok(said),
@@ -228,10 +228,10 @@ fn read_record<F: Folder>(
 ) -> Result<ReadRecord, Fault>
     requires kind { kind_of addr ≡ blocks_256 }
     requires stands { IsTrue (stands_among files.now addr) }
-    ensures said { IfOk result (λ said. ForSome (F.told folder.old).files (λ image. IsSaidBy image addr said)) }
+    ensures said { OkFor result (F.told folder.old) (λ said image. IsSaidBy image addr said) }
     ensures reads { ReadsOnly F.told F.faults folder.old folder.new (IfDevice result) }
     ensures damaged { IfDamaged result (IsRecordDamage files.now (F.told folder.new)) }
-    ensures untold { ForSome (F.told folder.new).files (Agrees files.now) → IfDamaged result (λ _. (F.told folder.new).files ≡ None) }
+    ensures untold { UndamagedWhere result (F.told folder.new) (Agrees files.now) }
 {
     let words = read_words(folder, files, addr)?;
     Ok(ReadRecord {

@@ -1,12 +1,12 @@
 // The words of a record, as they are read.
-ghost use Rattle.std.specs.Prelude.{◌≡◌, IfOk, IsTrue, None, OnOk, length};
+ghost use Rattle.std.specs.Prelude.{◌≡◌, IsTrue, OnOk, length};
 ghost use Rattle.std.specs.Option.{ForSome};
 ghost use Rattle.spec_image.specs.Image.{Block as block, HasRange};
 ghost use Rattle.spec_image.specs.Told.{ReadsOnly};
 ghost use Rattle.spec_format.specs.Address.{blocks_256, file_selector, kind_of, place};
 ghost use Rattle.spec_format.specs.Records.{entry_size};
 ghost use Rattle.blk_io.specs.declared.folder.FileId.TheVariants as FileId;
-ghost use Rattle.blk_io.specs.Faults.{IfDamaged, IfDevice, IsShort};
+ghost use Rattle.blk_io.specs.Faults.{IfDamaged, IfDevice, IsShort, UndamagedWhere, OkFor};
 ghost use Rattle.blk_disk.specs.Tables.{Agrees, stands_among};
 ghost use Rattle.blk_audit.specs.Records.{AreWordsOf, record_words_in};
 
@@ -56,11 +56,11 @@ pub fn read_words<F: Folder>(
 ) -> Result<RecordWords, Fault>
     requires kind { kind_of entry ≡ blocks_256 }
     requires stands { IsTrue (stands_among files.now entry) }
-    ensures words { IfOk result (λ words. ForSome (F.told folder.old).files (λ image. AreWordsOf image entry words)) }
+    ensures words { OkFor result (F.told folder.old) (λ words image. AreWordsOf image entry words) }
     ensures checked { OnOk result (ForSome (F.told folder.old).files (λ image. HasRange image (block (file_selector entry)) (place entry) entry_size)) }
     ensures reads { ReadsOnly F.told F.faults folder.old folder.new (IfDevice result) }
     ensures short { IfDamaged result (IsShort (F.told folder.old) (FileId.Block (file_selector entry)) (place entry) entry_size) }
-    ensures untold { ForSome (F.told folder.old).files (Agrees files.now) → IfDamaged result (λ _. (F.told folder.old).files ≡ None) }
+    ensures untold { UndamagedWhere result (F.told folder.old) (Agrees files.now) }
 {
     let mut bytes = [0u8; EntryView::SIZE];
     files.read_block(folder, entry, 0, &mut bytes)?;

@@ -1,16 +1,14 @@
 // The LRU list and the chains of a folder, read together.
-ghost use Rattle.std.specs.Prelude.{◌≡◌, None, IfOk};
-ghost use Rattle.std.specs.Option.{ForSome};
+ghost use Rattle.std.specs.Prelude.{◌≡◌, IfOk};
 ghost use Rattle.spec_image.specs.Told.{ReadsOnly};
-ghost use Rattle.spec_format.specs.Headers.{table_length};
 ghost use Rattle.spec_folder.specs.ListImages.{completed_walk};
-ghost use Rattle.spec_folder.specs.View.{store_of};
+ghost use Rattle.blk_io.specs.Faults.{OkFor};
 ghost use Rattle.blk_disk.specs.Open.{IsOpen};
 ghost use Rattle.blk_disk.specs.Tables.{Agrees};
-ghost use Rattle.blk_audit.specs.Chaining.{AreChainsThere, reached_by, words_reached};
 ghost use Rattle.blk_audit.specs.Faults.{IfScanDamaged, IfScanDevice, IsListsDamage};
 ghost use Rattle.blk_audit.specs.ReadLists.{AreListsAmong, AreListsOf};
-ghost use Rattle.blk_audit.specs.Walking.{HasLruList, nodes_walked};
+ghost use Rattle.blk_audit.specs.Walking.{nodes_walked};
+ghost use Rattle.blk_audit.specs.ScanClauses.{ReachesAllChains, AreListsThere, ScanUndamagedWhere};
 
 use crate::fault::ScanFault;
 use crate::list_walk::Walked;
@@ -50,16 +48,16 @@ pub fn read_lists<F: Folder>(
     folder: &mut F,
     files: &BlockFiles,
 ) -> Result<Lists, ScanFault>
-    ensures walked { IfOk result (λ lists. ForSome (F.told folder.old).files (λ image. Agrees files.now image → nodes_walked lists.walked ≡ completed_walk image)) }
-    ensures reached { IfOk result (λ lists. ForSome (F.told folder.old).files (λ image. Agrees files.now image → words_reached lists.reached ≡ reached_by (store_of image) table_length)) }
-    ensures checked { IfOk result (λ lists. ForSome (F.told folder.old).files (λ image. HasLruList files.now image × AreChainsThere files.now image (words_reached lists.reached))) }
-    ensures lists { IfOk result (λ lists. ForSome (F.told folder.old).files (λ image. Agrees files.now image → AreListsOf image lists)) }
+    ensures walked { OkFor result (F.told folder.old) (λ lists image. Agrees files.now image → nodes_walked lists.walked ≡ completed_walk image) }
+    ensures reached { OkFor result (F.told folder.old) (λ lists. ReachesAllChains files.now lists.reached) }
+    ensures checked { OkFor result (F.told folder.old) (AreListsThere files.now) }
+    ensures lists { OkFor result (F.told folder.old) (λ lists image. Agrees files.now image → AreListsOf image lists) }
     ensures stand { IfOk result (AreListsAmong files.now) }
     ensures reads { ReadsOnly F.told F.faults folder.old folder.new (IfScanDevice result) }
 
     // An observable folder reports corruption only where its index is too short or the block files don't agree with it.
     ensures damaged { IfScanDamaged result (IsListsDamage files.now (F.told folder.new)) }
-    ensures untold { ForSome (F.told folder.old).files (IsOpen files.now) → IfScanDamaged result (λ _. (F.told folder.old).files ≡ None) }
+    ensures untold { ScanUndamagedWhere result (F.told folder.old) (IsOpen files.now) }
 {
     let nodes = read_nodes(alloc, folder, files)?;
     let walked = walk_over(alloc, folder, files, &nodes)?;

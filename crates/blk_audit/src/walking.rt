@@ -1,7 +1,8 @@
 // The walk of a folder.
-ghost use Rattle.std.specs.Prelude.{◌≡◌, None, IfOk, OnOk};
+ghost use Rattle.std.specs.Prelude.{◌≡◌, IfOk, OnOk};
 ghost use Rattle.std.specs.Option.{ForSome};
 ghost use Rattle.spec_image.specs.Told.{ReadsOnly};
+ghost use Rattle.blk_io.specs.Faults.{OkFor};
 ghost use Rattle.blk_audit.specs.Faults.{IfScanDamaged, IfScanDevice, IsWalkDamage};
 ghost use Rattle.spec_folder.specs.ListImages.{completed_walk};
 ghost use Rattle.blk_disk.specs.Open.{IsOpen};
@@ -9,6 +10,7 @@ ghost use Rattle.blk_disk.specs.Tables.{Agrees};
 ghost use Rattle.blk_audit.specs.Filled.{CountsStand};
 ghost use Rattle.blk_audit.specs.Nodes.{AreNodesOf};
 ghost use Rattle.blk_audit.specs.Walking.{AreMet, HasEnds, HasLruList, NodesStand, nodes_walked};
+ghost use Rattle.blk_audit.specs.ScanClauses.{ScanUndamagedWhere};
 
 use crate::fault::ScanFault;
 use crate::list_walk::{Walked, walk_nodes};
@@ -31,7 +33,7 @@ pub fn walk<F: Folder>(
     folder: &mut F,
     files: &BlockFiles,
 ) -> Result<Walked, ScanFault>
-    ensures walked { IfOk result (λ walked. ForSome (F.told folder.old).files (λ image. Agrees files.now image → nodes_walked walked ≡ completed_walk image)) }
+    ensures walked { OkFor result (F.told folder.old) (λ walked image. Agrees files.now image → nodes_walked walked ≡ completed_walk image) }
     ensures met { IfOk result AreMet }
     ensures stand { IfOk result (λ walked. NodesStand files.now (nodes_walked walked)) }
     ensures checked { OnOk result (ForSome (F.told folder.old).files (HasLruList files.now)) }
@@ -39,7 +41,7 @@ pub fn walk<F: Folder>(
 
     // An observable folder reports corruption only where its index is too short or the block files don't agree with it.
     ensures damaged { IfScanDamaged result (IsWalkDamage files.now (F.told folder.new)) }
-    ensures untold { ForSome (F.told folder.old).files (IsOpen files.now) → IfScanDamaged result (λ _. (F.told folder.old).files ≡ None) }
+    ensures untold { ScanUndamagedWhere result (F.told folder.old) (IsOpen files.now) }
 {
     let nodes = read_nodes(alloc, folder, files)?;
     walk_over(alloc, folder, files, &nodes)
@@ -54,13 +56,13 @@ pub(crate) fn walk_over<F: Folder>(
 ) -> Result<Walked, ScanFault>
     requires nodes { ForSome (F.told folder.old).files (λ image. Agrees files.now image → AreNodesOf image nodes.now) }
     requires counted { CountsStand files.now nodes.now }
-    ensures walked { IfOk result (λ walked. ForSome (F.told folder.old).files (λ image. Agrees files.now image → nodes_walked walked ≡ completed_walk image)) }
+    ensures walked { OkFor result (F.told folder.old) (λ walked image. Agrees files.now image → nodes_walked walked ≡ completed_walk image) }
     ensures met { IfOk result AreMet }
     ensures stand { IfOk result (λ walked. NodesStand files.now (nodes_walked walked)) }
     ensures checked { OnOk result (ForSome (F.told folder.old).files (HasEnds files.now)) }
     ensures reads { ReadsOnly F.told F.faults folder.old folder.new (IfScanDevice result) }
     ensures damaged { IfScanDamaged result (IsWalkDamage files.now (F.told folder.new)) }
-    ensures untold { ForSome (F.told folder.old).files (IsOpen files.now) → IfScanDamaged result (λ _. (F.told folder.old).files ≡ None) }
+    ensures untold { ScanUndamagedWhere result (F.told folder.old) (IsOpen files.now) }
 {
     let head = word(folder, IndexHead::HEADS)?;
     let plan = pending(folder, files)?;

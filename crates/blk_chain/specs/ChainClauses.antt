@@ -22,10 +22,6 @@ UndamagedByTable result told files P = ForSome told.files (Agrees files) → For
 abbrev pub CanUnlinkFound : List ℕ → Found → Image → Type 0
 CanUnlinkFound key found image = CanBeSearched key image → CanBeUnlinked found.entry found.before image
 
--- exactly the steps that `steps_on` gives for the image before them were made
-abbrev pub MakesAllOf : (old new : Told) → (steps_on : Image → List TrailStep) → Type 0
-MakesAllOf old new steps_on = ForSome old.files (λ from. Applies old new (steps_on from))
-
 -- where the record can be unlinked, P holds of the folder, the record and the one before it
 abbrev pub WhereUnlinkable : Told → ℕ → Option ℕ → (Image → ℕ → Option ℕ → Type 0) → Type 0
 WhereUnlinkable told entry before P = ForSome told.files (λ from. CanBeUnlinked entry before from → P from entry before)

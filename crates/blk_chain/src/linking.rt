@@ -2,12 +2,12 @@
 ghost use Rattle.std.specs.Prelude.{◌≡◌, ◌≤◌, IsTrue, None, OnOk};
 ghost use Rattle.std.specs.Option.{ForSome};
 ghost use Rattle.spec_image.specs.Image.{Block as block, HasRange};
-ghost use Rattle.spec_image.specs.Told.{LeavesWhere, MakesPartOf, Rises, Stays};
+ghost use Rattle.spec_image.specs.Told.{LeavesWhere, MakesPartOf, Rises, Stays, MakesSteps};
 ghost use Rattle.spec_format.specs.Address.{blocks_256, file_selector, kind_of, place};
 ghost use Rattle.blk_io.specs.declared.folder.FileId.TheVariants as FileId;
 ghost use Rattle.blk_io.specs.Faults.{IfDamaged, IfDevice, IsShort};
 ghost use Rattle.blk_disk.specs.Tables.{stands_among};
-ghost use Rattle.blk_chain.specs.ChainClauses.{CommitsLink, MakesAllOf};
+ghost use Rattle.blk_chain.specs.ChainClauses.{CommitsLink};
 ghost use Rattle.blk_chain.specs.Linking.{CanBeLinked, IsLinkedInFront, link_front_steps};
 ghost use Rattle.blk_chain.specs.Mapping.{GainsOne};
 ghost use Rattle.blk_disk.specs.Open.{IsOpen};
@@ -33,7 +33,7 @@ pub fn link_front<F: Folder>(f: &mut F, files: &BlockFiles, entry: Addr) -> Resu
     ensures gains { OnOk result (LeavesWhere (F.told f.old) (F.told f.new) (CanBeLinked entry) (λ from. GainsOne from entry)) }
     ensures checked { OnOk result (ForSome (F.told f.old).files (λ image. HasRange image (block (file_selector entry)) (place entry) 4)) }
     ensures is_open { ForSome (F.told f.new).files (IsOpen files.now) }
-    ensures steps { OnOk result (MakesAllOf (F.told f.old) (F.told f.new) (λ from. link_front_steps from entry)) }
+    ensures steps { OnOk result (MakesSteps (F.told f.old) (F.told f.new) (λ from. link_front_steps from entry)) }
     ensures prefix { MakesPartOf (F.told f.old) (F.told f.new) (λ from. link_front_steps from entry) }
 
     // Until the word of the bucket is written all is as before, and from then on the record is linked and nothing else has changed.

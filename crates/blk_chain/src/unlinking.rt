@@ -1,12 +1,12 @@
 // Records that are taken out of a chain.
 ghost use Rattle.std.specs.Prelude.{◌≡◌, ◌≤◌, IfSome, IsTrue, None, OnOk, Some};
 ghost use Rattle.std.specs.Option.{ForSome};
-ghost use Rattle.spec_image.specs.Told.{MakesPartOf, Rises, Stays};
+ghost use Rattle.spec_image.specs.Told.{MakesPartOf, Rises, Stays, MakesSteps};
 ghost use Rattle.spec_format.specs.Address.{blocks_256, kind_of};
 ghost use Rattle.blk_io.specs.Faults.{IfDamaged, IfDevice};
 ghost use Rattle.spec_format.specs.Sealed.{RecordChecks};
 ghost use Rattle.blk_disk.specs.Tables.{stands_among};
-ghost use Rattle.blk_chain.specs.ChainClauses.{CommitsUnlink, MakesAllOf, UnlinkEndsIn, WhereUnlinkable};
+ghost use Rattle.blk_chain.specs.ChainClauses.{CommitsUnlink, UnlinkEndsIn, WhereUnlinkable};
 ghost use Rattle.blk_chain.specs.Mapping.{LosesOne};
 ghost use Rattle.blk_chain.specs.Unlinking.{BeforeChecks, IsSealedAgain, IsUnlinkDamage, IsUnlinked, unlink_steps};
 ghost use Rattle.blk_disk.specs.Open.{IsOpen};
@@ -35,7 +35,7 @@ fn unlink_behind<F: Folder>(
     ensures sealed { OnOk result (ForSome (F.told folder.old).files (λ from. ForSome (F.told folder.new).files (IsSealedAgain from entry (Some before)))) }
     ensures checked { OnOk result (ForSome (F.told folder.old).files (RecordChecks before)) }
     ensures is_open { ForSome (F.told folder.new).files (IsOpen files.now) }
-    ensures steps { OnOk result (MakesAllOf (F.told folder.old) (F.told folder.new) (λ from. unlink_steps from entry (Some before))) }
+    ensures steps { OnOk result (MakesSteps (F.told folder.old) (F.told folder.new) (λ from. unlink_steps from entry (Some before))) }
     ensures prefix { MakesPartOf (F.told folder.old) (F.told folder.new) (λ from. unlink_steps from entry (Some before)) }
     ensures commits { WhereUnlinkable (F.told folder.old) entry (Some before) (CommitsUnlink (F.told folder.old) (F.told folder.new)) }
     ensures damaged { IfDamaged result (IsUnlinkDamage (F.told folder.old) entry (Some before)) }
@@ -55,7 +55,7 @@ fn unlink_first<F: Folder>(folder: &mut F, files: &BlockFiles, entry: Addr) -> R
     requires is_open { ForSome (F.told folder.old).files (IsOpen files.now) }
     ensures unlinked { OnOk result (WhereUnlinkable (F.told folder.old) entry None (UnlinkEndsIn (F.told folder.new) IsUnlinked)) }
     ensures is_open { ForSome (F.told folder.new).files (IsOpen files.now) }
-    ensures steps { OnOk result (MakesAllOf (F.told folder.old) (F.told folder.new) (λ from. unlink_steps from entry None)) }
+    ensures steps { OnOk result (MakesSteps (F.told folder.old) (F.told folder.new) (λ from. unlink_steps from entry None)) }
     ensures prefix { MakesPartOf (F.told folder.old) (F.told folder.new) (λ from. unlink_steps from entry None) }
     ensures commits { WhereUnlinkable (F.told folder.old) entry None (CommitsUnlink (F.told folder.old) (F.told folder.new)) }
     ensures damaged { IfDamaged result (IsUnlinkDamage (F.told folder.old) entry None) }
@@ -90,7 +90,7 @@ pub fn unlink<F: Folder>(f: &mut F, files: &BlockFiles, found: &Found) -> Result
     ensures checked { OnOk result (ForSome (F.told f.old).files (BeforeChecks found.now.before)) }
     ensures sealed { OnOk result (ForSome (F.told f.old).files (λ from. ForSome (F.told f.new).files (IsSealedAgain from found.now.entry found.now.before))) }
     ensures is_open { ForSome (F.told f.new).files (IsOpen files.now) }
-    ensures steps { OnOk result (MakesAllOf (F.told f.old) (F.told f.new) (λ from. unlink_steps from found.now.entry found.now.before)) }
+    ensures steps { OnOk result (MakesSteps (F.told f.old) (F.told f.new) (λ from. unlink_steps from found.now.entry found.now.before)) }
     ensures prefix { MakesPartOf (F.told f.old) (F.told f.new) (λ from. unlink_steps from found.now.entry found.now.before) }
 
     // Until that one word is written the chains are the old ones, and from then on the record is unlinked; the checksum of each record matches or is absent, as

@@ -12,10 +12,6 @@ use Rattle.blk_disk.specs.Tables.{is_node_among}
 use Rattle.blk_entry.specs.Keys.{HasData, HasKeyPlace, HasReadableKey, IsRecordHead, bytes_before, key_address, key_at}
 use Rattle.blk_entry.specs.declared.keys.Head.{Head}
 
--- where P and Q hold of an observable folder, the answer is no failed check
-abbrev pub UndamagedWhereBoth : {A : Type 0} → Result A Fault → Told → (P Q : Image → Type 0) → Type 0
-UndamagedWhereBoth result told P Q = ForSome told.files P → ForSome told.files Q → OpaqueIfDamaged result told
-
 -- the record names a rankings node that is there
 abbrev pub HasNodeThere : BlockFiles → ℕ → Image → Type 0
 HasNodeThere files entry image = is_node_among files (entry_at image entry).rankings_node ≡ true

@@ -3,9 +3,9 @@ ghost use Rattle.std.specs.Prelude.{◌≡◌, ◌≤◌, ◌↔◌, IfOk, IsTru
 ghost use Rattle.std.specs.Option.{ForSome};
 ghost use Rattle.spec_image.specs.Told.{ReadsOnly};
 ghost use Rattle.spec_format.specs.Address.{blocks_256, kind_of};
-ghost use Rattle.blk_io.specs.Faults.{IfDamaged, IfDevice, OkFor};
+ghost use Rattle.blk_io.specs.Faults.{IfDamaged, IfDevice, OkFor, UndamagedWhereBoth};
 ghost use Rattle.blk_disk.specs.Tables.{Agrees, stands_among};
-ghost use Rattle.blk_entry.specs.EntryClauses.{HasBytesByHead, IsKeyByHead, PlacesKeyOf, UndamagedWhereBoth};
+ghost use Rattle.blk_entry.specs.EntryClauses.{HasBytesByHead, IsKeyByHead, PlacesKeyOf};
 ghost use Rattle.blk_entry.specs.Keys.{AreKeyBytes, CanBeRead, HasBytesOf, HasData, HasKeyBytes, HasReadableKey, HasRecord, IsCut, IsCutPiece, IsEntryOf, IsRecordHead, IsInFile, IsInside, IsKeyDamage, IsPlaceDamage, IsPlaced, data_at};
 
 use crate::data::read_data;

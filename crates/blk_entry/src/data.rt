@@ -5,9 +5,8 @@ ghost use Rattle.spec_image.specs.Footprint.{SameOutside};
 ghost use Rattle.spec_image.specs.Told.{Applies, AppliesPrefix, Rises, ReadsOnly, StopsFrom};
 ghost use Rattle.spec_format.specs.Address.{kind_of};
 ghost use Rattle.blk_addr.specs.Kind.{kind_number};
-ghost use Rattle.blk_io.specs.Faults.{IfDamaged, IfDevice};
+ghost use Rattle.blk_io.specs.Faults.{IfDamaged, IfDevice, UndamagedWhereBoth};
 ghost use Rattle.blk_disk.specs.Tables.{Agrees};
-ghost use Rattle.blk_entry.specs.EntryClauses.{UndamagedWhereBoth};
 ghost use Rattle.blk_entry.specs.Keys.{HasData, IsCut, IsInFile, IsInside, data_at, data_range};
 ghost use Rattle.blk_entry.specs.Steps.{data_steps, ended_steps};
 

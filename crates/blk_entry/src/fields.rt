@@ -6,11 +6,11 @@ ghost use Rattle.spec_image.specs.Told.{ReadsOnly};
 ghost use Rattle.spec_format.specs.Address.{blocks_256, file_selector, kind_of, place, rankings};
 ghost use Rattle.spec_format.specs.Records.{entry_size};
 ghost use Rattle.spec_folder.specs.View.{entry_at};
-ghost use Rattle.blk_entry.specs.EntryClauses.{HasNodeThere, UndamagedWhereBoth};
+ghost use Rattle.blk_entry.specs.EntryClauses.{HasNodeThere};
 ghost use Rattle.blk_entry.specs.Keys.{node_place};
 ghost use Rattle.blk_record.specs.Fields.{IsField};
 ghost use Rattle.blk_io.specs.declared.folder.FileId.TheVariants as FileId;
-ghost use Rattle.blk_io.specs.Faults.{IfDamaged, IfDevice, IsShort};
+ghost use Rattle.blk_io.specs.Faults.{IfDamaged, IfDevice, IsShort, UndamagedWhereBoth};
 ghost use Rattle.blk_disk.specs.Tables.{Agrees, stands_among};
 ghost use Rattle.blk_disk.specs.Damages.{IsNodeWordDamage};
 

@@ -55,10 +55,6 @@ length_steps image file n = words file n (zeros (length_of image file - n)) ++ (
 abbrev pub delete_steps : Image → File → List TrailStep
 delete_steps image file = words file 0 (zeros (length_of image file)) ++ (Delete file ∷ [])
 
--- the steps that `steps` gives for the files were made, in an observable folder
-abbrev pub MakesSteps : Told → Told → (Image → List TrailStep) → Type 0
-MakesSteps old new steps = ForSome old.files (λ image. Applies old new (steps image))
-
 -- exactly the steps of a write to a file were made, in an observable folder
 abbrev pub WritesErasing : (old new : Told) → File → ℕ → List ℕ → Type 0
 WritesErasing old new file place bytes = MakesSteps old new (λ image. write_steps image file place bytes)

@@ -2,11 +2,11 @@
 ghost use Rattle.std.specs.Prelude.{◌≡◌, ◌+◌, ◌^◌, ◌<◌, ◌≤◌, length, OnOk};
 ghost use Rattle.std.specs.Option.{ForSome};
 ghost use Rattle.spec_image.specs.Image.{length_of};
-ghost use Rattle.spec_image.specs.Told.{Applies, AppliesPrefix, MakesPartOf};
+ghost use Rattle.spec_image.specs.Told.{Applies, AppliesPrefix, MakesPartOf, MakesSteps};
 ghost use Rattle.spec_format.specs.Address.{header_size};
 ghost use Rattle.spec_format.specs.BlockFiles.{most_blocks};
 ghost use Rattle.blk_io.specs.FileNames.{file_of};
-ghost use Rattle.blk_eraser.specs.Erasing.{IsBlockFile, MakesSteps, WritesErasing, WritesErasingPrefix, zeros_over_block, zeros_over_freed, zeros_before_write};
+ghost use Rattle.blk_eraser.specs.Erasing.{IsBlockFile, WritesErasing, WritesErasingPrefix, zeros_over_block, zeros_over_freed, zeros_before_write};
 
 use crate::map::{BITS_OF_BYTE, HEADER_LEN, MAP, block_size, is_freed, read_header, touches_map};
 use crate::zeros::{erase, length};

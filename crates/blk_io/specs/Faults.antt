@@ -34,6 +34,10 @@ OpaqueIfDamaged result told = IfDamaged result (λ _. told.files ≡ None)
 abbrev pub UndamagedWhere : {A : Type 0} → Result A Fault → Told → (Image → Type 0) → Type 0
 UndamagedWhere result told P = ForSome told.files P → OpaqueIfDamaged result told
 
+-- where both P and Q hold of an observable folder, the answer is no failed check
+abbrev pub UndamagedWhereBoth : {A : Type 0} → Result A Fault → Told → (P Q : Image → Type 0) → Type 0
+UndamagedWhereBoth result told P Q = ForSome told.files P → ForSome told.files Q → OpaqueIfDamaged result told
+
 -- where the answer is Ok, P holds of it and of an observable folder
 abbrev pub OkFor : {A E : Type 0} → Result A E → Told → (A → Image → Type 0) → Type 0
 OkFor result told P = IfOk result (λ answer. ForSome told.files (P answer))

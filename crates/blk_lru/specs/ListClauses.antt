@@ -15,10 +15,6 @@ use Rattle.blk_disk.specs.declared.tables.BlockFiles.{BlockFiles}
 use Rattle.blk_disk.specs.Tables.{Agrees, is_node_among}
 use Rattle.blk_lru.specs.Nodes.{link_at}
 
--- exactly the steps that a function gives for the image were made, where the image is observable
-abbrev pub MakesAllOf : (old new : Told) → (steps_on : Image → List TrailStep) → Type 0
-MakesAllOf old new steps_on = ForSome old.files (λ from. Applies old new (steps_on from))
-
 -- the node may be put at the head of the list of the image
 abbrev pub MayGoInFront : (node : ℕ) → Image → Type 0
 MayGoInFront node image = CanBeInserted (list_of image) (walked image) node
@@ -42,7 +38,3 @@ StopsListed node old new P = ForSome old.files (λ from. (prefix suffix : List �
 -- the writes of an access were made to the list, each node that was written has its checksum again, and so has the node itself
 abbrev pub SealsAccess : (node : ℕ) → (from image : Image) → Type 0
 SealsAccess node from image = Seals from (touch_writes node (list_of from)) image × IsSealed image node
-
--- where P holds of an observable folder, and Q does, the answer is no failed check
-abbrev pub UndamagedWithBoth : {A : Type 0} → Result A Fault → Told → (P Q : Image → Type 0) → Type 0
-UndamagedWithBoth result told P Q = ForSome told.files P → ForSome told.files Q → OpaqueIfDamaged result told

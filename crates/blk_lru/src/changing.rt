@@ -1,7 +1,7 @@
 // Changes of the LRU list, each an operation in flight until its last word.
 ghost use Rattle.std.specs.Prelude.{◌≡◌, ◌≢◌, ◌++◌, ◌∷◌, ◌≤◌, IfOk, IfSome, IsTrue, OnOk, Some, true};
 ghost use Rattle.std.specs.Option.{ForSome};
-ghost use Rattle.spec_image.specs.Told.{MakesPartOf, Rises, ReadsOnly, LeavesFrom, LeavesWhere, StopsWhere};
+ghost use Rattle.spec_image.specs.Told.{MakesPartOf, Rises, ReadsOnly, LeavesFrom, LeavesWhere, StopsWhere, MakesSteps};
 ghost use Rattle.spec_format.specs.Sealed.{sealed_steps};
 ghost use Rattle.spec_folder.specs.Completion.{insert, move, remove as removal};
 ghost use Rattle.spec_folder.specs.ListPlans.{touch_writes, writes_of};
@@ -14,7 +14,7 @@ ghost use Rattle.blk_lru.specs.Damages.{IsInsertDamage, IsNeighbourDamage, IsWro
 ghost use Rattle.blk_lru.specs.Lists.{CanBeTouched, HasGoodLinks, IsListed};
 ghost use Rattle.blk_lru.specs.Moments.{IsMidInsert, IsMidRemove, IsMidAccess};
 ghost use Rattle.blk_lru.specs.Plans.{AreBeside, StandBeside, word_or_zero};
-ghost use Rattle.blk_lru.specs.ListClauses.{MakesAllOf, MayGoInFront, LeavesListed, StopsListed, SealsAccess};
+ghost use Rattle.blk_lru.specs.ListClauses.{MayGoInFront, LeavesListed, StopsListed, SealsAccess};
 ghost use Rattle.blk_disk.specs.Open.{IsOpen};
 
 use crate::nodes::link;
@@ -40,7 +40,7 @@ pub fn insert_front<F: Folder>(f: &mut F, files: &BlockFiles, node: Addr) -> Res
     ensures checked { OnOk result (ForSome (F.told f.old).files (λ from. CanBeMade from (writes_of insert node (list_of from)))) }
     ensures inserted { OnOk result (LeavesWhere (F.told f.old) (F.told f.new) (MayGoInFront node) (λ from. HasListAtRest (node ∷ walked from))) }
     ensures sealed { OnOk result (LeavesFrom (F.told f.old) (F.told f.new) (λ from. Seals from (writes_of insert node (list_of from)))) }
-    ensures steps { OnOk result (MakesAllOf (F.told f.old) (F.told f.new) (λ from. operation_steps insert node from)) }
+    ensures steps { OnOk result (MakesSteps (F.told f.old) (F.told f.new) (λ from. operation_steps insert node from)) }
     ensures prefix { MakesPartOf (F.told f.old) (F.told f.new) (λ from. operation_steps insert node from) }
 
     // At each word the redo gives the old list, or from the transaction word on the new one; nothing but the list changes.
@@ -73,7 +73,7 @@ pub fn remove<F: Folder>(f: &mut F, files: &BlockFiles, node: Addr) -> Result<()
     ensures checked { OnOk result (ForSome (F.told f.old).files (λ from. HasGoodLinks (list_of from) node)) }
     ensures removed { OnOk result (LeavesListed node (F.told f.old) (F.told f.new) (λ prefix suffix. prefix ++ suffix)) }
     ensures sealed { OnOk result (LeavesFrom (F.told f.old) (F.told f.new) (λ from. Seals from (writes_of removal node (list_of from)))) }
-    ensures steps { OnOk result (MakesAllOf (F.told f.old) (F.told f.new) (λ from. operation_steps removal node from)) }
+    ensures steps { OnOk result (MakesSteps (F.told f.old) (F.told f.new) (λ from. operation_steps removal node from)) }
     ensures prefix { MakesPartOf (F.told f.old) (F.told f.new) (λ from. operation_steps removal node from) }
 
     // At each word the redo gives the old list, or from the transaction word on the new one; nothing but the list changes.
@@ -108,7 +108,7 @@ pub fn touch<F: Folder>(f: &mut F, files: &BlockFiles, node: Addr, moment: u64) 
     ensures touched { OnOk result (LeavesListed node (F.told f.old) (F.told f.new) (λ prefix suffix. node ∷ prefix ++ suffix)) }
     ensures times { OnOk result (LeavesFrom (F.told f.old) (F.told f.new) (λ _. AreTimes node moment)) }
     ensures sealed { OnOk result (LeavesFrom (F.told f.old) (F.told f.new) (SealsAccess node)) }
-    ensures steps { OnOk result (MakesAllOf (F.told f.old) (F.told f.new) (λ from. steps_of_touch node moment from)) }
+    ensures steps { OnOk result (MakesSteps (F.told f.old) (F.told f.new) (λ from. steps_of_touch node moment from)) }
     ensures prefix { MakesPartOf (F.told f.old) (F.told f.new) (λ from. steps_of_touch node moment from) }
 
     // At each word the redo gives the old list, or from the transaction word on the new one; nothing but the list and the times changes.
@@ -137,7 +137,7 @@ fn set_times<F: Folder>(
     requires stands { is_node_among files.now node ≡ true }
     requires is_open { ForSome (F.told folder.old).files (IsOpen files.now) }
     ensures checked { OnOk result (ForSome (F.told folder.old).files (λ image. (list_of image).checks node ≡ true)) }
-    ensures steps { OnOk result (MakesAllOf (F.told folder.old) (F.told folder.new) (λ from. sealed_steps from node (times_of moment))) }
+    ensures steps { OnOk result (MakesSteps (F.told folder.old) (F.told folder.new) (λ from. sealed_steps from node (times_of moment))) }
     ensures prefix { MakesPartOf (F.told folder.old) (F.told folder.new) (λ from. sealed_steps from node (times_of moment)) }
     ensures is_open { ForSome (F.told folder.new).files (IsOpen files.now) }
     ensures damaged { IfDamaged result (IsWrongNode files.now (F.told folder.new)) }
@@ -162,7 +162,7 @@ fn move_front<F: Folder>(folder: &mut F, files: &BlockFiles, node: Addr) -> Resu
     requires is_open { ForSome (F.told folder.old).files (IsOpen files.now) }
     ensures checked { OnOk result (ForSome (F.told folder.old).files (λ from. CanBeMade from (touch_writes node (list_of from)))) }
     ensures linked { OnOk result (ForSome (F.told folder.old).files (λ from. (list_of from).head ≢ node → HasGoodLinks (list_of from) node)) }
-    ensures steps { OnOk result (MakesAllOf (F.told folder.old) (F.told folder.new) (λ from. steps_of_writes (touch_writes node (list_of from)) from)) }
+    ensures steps { OnOk result (MakesSteps (F.told folder.old) (F.told folder.new) (λ from. steps_of_writes (touch_writes node (list_of from)) from)) }
     ensures prefix { MakesPartOf (F.told folder.old) (F.told folder.new) (λ from. steps_of_writes (touch_writes node (list_of from)) from) }
     ensures is_open { ForSome (F.told folder.new).files (IsOpen files.now) }
     ensures damaged { IfDamaged result (IsTouchDamage node files.now (F.told folder.old) (F.told folder.new)) }
@@ -190,7 +190,7 @@ fn move_behind<F: Folder>(
     requires head { ForSome (F.told folder.old).files (λ image. word_or_zero head ≡ (list_of image).head) }
     ensures checked { OnOk result (ForSome (F.told folder.old).files (λ from. CanBeMade from (writes_of move node (list_of from)))) }
     ensures linked { OnOk result (ForSome (F.told folder.old).files (λ from. HasGoodLinks (list_of from) node)) }
-    ensures steps { OnOk result (MakesAllOf (F.told folder.old) (F.told folder.new) (λ from. operation_steps move node from)) }
+    ensures steps { OnOk result (MakesSteps (F.told folder.old) (F.told folder.new) (λ from. operation_steps move node from)) }
     ensures prefix { MakesPartOf (F.told folder.old) (F.told folder.new) (λ from. operation_steps move node from) }
     ensures is_open { ForSome (F.told folder.new).files (IsOpen files.now) }
     ensures damaged { IfDamaged result (IsRemovalDamage node files.now (F.told folder.old) (F.told folder.new)) }

@@ -1,7 +1,7 @@
 // The redo of the operation in flight.
 ghost use Rattle.std.specs.Prelude.{◌≡◌, ◌≤◌, None, IfOk, IfSome, OnOk, map, true};
 ghost use Rattle.std.specs.Option.{ForSome};
-ghost use Rattle.spec_image.specs.Told.{MakesPartOf, Passes, Rises, ReadsOnly, LeavesFrom};
+ghost use Rattle.spec_image.specs.Told.{MakesPartOf, Passes, Rises, ReadsOnly, LeavesFrom, MakesSteps};
 ghost use Rattle.spec_folder.specs.ListPlans.{completion_writes};
 ghost use Rattle.spec_folder.specs.View.{list_of};
 ghost use Rattle.spec_folder.specs.ListSteps.{AreOf, AllWriteWords, Seals};
@@ -14,7 +14,6 @@ ghost use Rattle.blk_lru.specs.Nodes.{AreLinksOf, list_among};
 ghost use Rattle.blk_lru.specs.Flights.{HasFlight, HasHead, HasNeighbours, HasNodeInFlight, HasOperands};
 ghost use Rattle.blk_lru.specs.Writes.{meant};
 ghost use Rattle.blk_lru.specs.Completing.{AreNodes, FindsInFlight, FindsHead, FoundNeighboursStand, FoundHeadStands, FindsNeighboursInFlight};
-ghost use Rattle.blk_lru.specs.ListClauses.{MakesAllOf};
 ghost use Rattle.blk_disk.specs.Open.{IsOpen};
 
 use crate::nodes::{Links, checked};
@@ -50,7 +49,7 @@ pub fn complete<F: Folder>(f: &mut F, files: &BlockFiles) -> Result<(), Fault>
     requires is_open { ForSome (F.told f.old).files (IsOpen files.now) }
     ensures sealed { OnOk result (LeavesFrom (F.told f.old) (F.told f.new) (λ from. Seals from (completion_writes (list_of from)))) }
     ensures done { OnOk result (LeavesFrom (F.told f.old) (F.told f.new) IsCompleted) }
-    ensures steps { OnOk result (MakesAllOf (F.told f.old) (F.told f.new) (λ from. completion_steps from)) }
+    ensures steps { OnOk result (MakesSteps (F.told f.old) (F.told f.new) (λ from. completion_steps from)) }
     ensures prefix { MakesPartOf (F.told f.old) (F.told f.new) (λ from. completion_steps from) }
 
     // At each word the redo gives what it gave at the entry, so it may crash and be begun again; nothing but the list changes.

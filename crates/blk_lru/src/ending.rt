@@ -1,7 +1,7 @@
 // The end of the LRU list.
 ghost use Rattle.std.specs.Prelude.{◌≡◌, ◌≤◌, IfOk, IfSome, None, OnOk, map, true};
 ghost use Rattle.std.specs.Option.{ForSome};
-ghost use Rattle.spec_image.specs.Told.{MakesPartOf, Rises, ReadsOnly, LeavesFrom};
+ghost use Rattle.spec_image.specs.Told.{MakesPartOf, Rises, ReadsOnly, LeavesFrom, MakesSteps};
 ghost use Rattle.spec_folder.specs.ListPlans.{ending_writes, front_of};
 ghost use Rattle.spec_folder.specs.ListSteps.{AllWriteWords, AreOf, Seals, steps_of_writes};
 ghost use Rattle.spec_folder.specs.ListImages.{CanBeMade};
@@ -11,7 +11,6 @@ ghost use Rattle.blk_disk.specs.Open.{IsOpen};
 ghost use Rattle.blk_disk.specs.Tables.{Agrees, is_node_among};
 ghost use Rattle.blk_lru.specs.Damages.{IsEndDamage, IsEndReadDamage, IsFrontDamage};
 ghost use Rattle.blk_lru.specs.Writes.{meant};
-ghost use Rattle.blk_lru.specs.ListClauses.{MakesAllOf};
 
 use crate::nodes::link_word;
 use crate::plans::{Plan, end_plan};
@@ -37,7 +36,7 @@ pub fn end_at<F: Folder>(
     requires is_open { ForSome (F.told folder.old).files (IsOpen files.now) }
     ensures checked { OnOk result (ForSome (F.told folder.old).files (λ from. CanBeMade from (ending_writes (list_of from) last))) }
     ensures sealed { OnOk result (LeavesFrom (F.told folder.old) (F.told folder.new) (λ from. Seals from (ending_writes (list_of from) last))) }
-    ensures steps { OnOk result (MakesAllOf (F.told folder.old) (F.told folder.new) (λ from. steps_of_writes (ending_writes (list_of from) last) from)) }
+    ensures steps { OnOk result (MakesSteps (F.told folder.old) (F.told folder.new) (λ from. steps_of_writes (ending_writes (list_of from) last) from)) }
     ensures prefix { MakesPartOf (F.told folder.old) (F.told folder.new) (λ from. steps_of_writes (ending_writes (list_of from) last) from) }
     ensures is_open { ForSome (F.told folder.new).files (IsOpen files.now) }
 

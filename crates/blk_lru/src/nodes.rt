@@ -6,11 +6,11 @@ ghost use Rattle.spec_image.specs.Told.{ReadsOnly};
 ghost use Rattle.spec_format.specs.Address.{file_selector, place};
 ghost use Rattle.spec_format.specs.Records.{checks, node_size};
 ghost use Rattle.blk_io.specs.declared.folder.FileId.TheVariants as names;
-ghost use Rattle.blk_io.specs.Faults.{IfDamaged, IfDevice, IsShort, UndamagedWhere, OkFor};
+ghost use Rattle.blk_io.specs.Faults.{IfDamaged, IfDevice, IsShort, UndamagedWhere, OkFor, UndamagedWhereBoth};
 ghost use Rattle.blk_disk.specs.Tables.{Agrees, is_node_among};
 ghost use Rattle.blk_lru.specs.Damages.{IsNodeLinkDamage, IsShortNode};
 ghost use Rattle.blk_lru.specs.Nodes.{link_at, list_among, FindsNode, HasNode, IsLinkPlace, links_by};
-ghost use Rattle.blk_lru.specs.ListClauses.{LinkStands, UndamagedWithBoth};
+ghost use Rattle.blk_lru.specs.ListClauses.{LinkStands};
 
 use blk_addr::Addr;
 use blk_disk::{BlockFiles, file_of};
@@ -39,7 +39,7 @@ pub(crate) fn link<F: Folder>(
     ensures checked { OnOk result (ForSome (F.told folder.old).files (λ image. HasRange image (block (file_selector node)) (place node + at) 4)) }
     ensures reads { ReadsOnly F.told F.faults folder.old folder.new (IfDevice result) }
     ensures damaged { IfDamaged result (IsNodeLinkDamage node at files.now (F.told folder.old)) }
-    ensures untold { UndamagedWithBoth result (F.told folder.old) (Agrees files.now) (LinkStands files.now node at) }
+    ensures untold { UndamagedWhereBoth result (F.told folder.old) (Agrees files.now) (LinkStands files.now node at) }
 {
     let mut bytes = [0u8; 4];
     files.read_block(folder, node, at, &mut bytes)?;

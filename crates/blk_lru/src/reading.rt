@@ -8,14 +8,14 @@ ghost use Rattle.spec_format.specs.Headers.{header_length, HasWholeIndex};
 ghost use Rattle.spec_folder.specs.View.{list_of};
 ghost use Rattle.spec_folder.specs.ListImages.{walked};
 ghost use Rattle.blk_io.specs.declared.folder.FileId.TheVariants as names;
-ghost use Rattle.blk_io.specs.Faults.{IfDamaged, IfDevice, OkFor};
+ghost use Rattle.blk_io.specs.Faults.{IfDamaged, IfDevice, OkFor, UndamagedWhereBoth};
 ghost use Rattle.blk_disk.specs.Tables.{Agrees, is_node_among};
 ghost use Rattle.blk_disk.specs.Damages.{IsNodeWordDamage};
 ghost use Rattle.blk_lru.specs.Damages.{IsListHeadDamage, IsNodeLinkDamage, IsListTailDamage};
 ghost use Rattle.blk_lru.specs.Nodes.{IsNodeOrNone, other_node_at};
 ghost use Rattle.blk_lru.specs.Lists.{IsListed, IsListAtRest, first_node_of, last_node_of};
 ghost use Rattle.blk_lru.specs.Plans.{word_or_zero, word_or_none};
-ghost use Rattle.blk_lru.specs.ListClauses.{ForBothSides, UndamagedWithBoth};
+ghost use Rattle.blk_lru.specs.ListClauses.{ForBothSides};
 
 use crate::nodes::link;
 use blk_addr::Addr;
@@ -44,7 +44,7 @@ pub fn first<F: Folder>(f: &mut F, files: &BlockFiles) -> Result<Option<Addr>, F
 
     // Too few bytes, or a word that names no node, which no observable folder gives whose list is idle.
     ensures damaged { IfDamaged result (IsListHeadDamage files.now (F.told f.old)) }
-    ensures untold { ForSome (F.told f.old).files HasWholeIndex → UndamagedWithBoth result (F.told f.old) (Agrees files.now) IsListAtRest }
+    ensures untold { ForSome (F.told f.old).files HasWholeIndex → UndamagedWhereBoth result (F.told f.old) (Agrees files.now) IsListAtRest }
 {
     end_of_list(f, files, HEAD)
 }
@@ -61,7 +61,7 @@ pub fn last<F: Folder>(f: &mut F, files: &BlockFiles) -> Result<Option<Addr>, Fa
 
     // Too few bytes, or a word that names no node, which no observable folder gives whose list is idle.
     ensures damaged { IfDamaged result (IsListTailDamage files.now (F.told f.old)) }
-    ensures untold { ForSome (F.told f.old).files HasWholeIndex → UndamagedWithBoth result (F.told f.old) (Agrees files.now) IsListAtRest }
+    ensures untold { ForSome (F.told f.old).files HasWholeIndex → UndamagedWhereBoth result (F.told f.old) (Agrees files.now) IsListAtRest }
 {
     end_of_list(f, files, TAIL)
 }
@@ -79,7 +79,7 @@ pub fn before<F: Folder>(f: &mut F, files: &BlockFiles, node: Addr) -> Result<Op
 
     // Too few bytes, or a word that names no node, which no observable folder gives in whose list the node is.
     ensures damaged { IfDamaged result (IsNodeLinkDamage node NodeView.PREV files.now (F.told f.old)) }
-    ensures untold { UndamagedWithBoth result (F.told f.old) (Agrees files.now) (IsListed node) }
+    ensures untold { UndamagedWhereBoth result (F.told f.old) (Agrees files.now) (IsListed node) }
 {
     let other = link(f, files, node, NodeView::PREV)?;
     Ok(unless_same(node, other))
@@ -98,7 +98,7 @@ pub fn after<F: Folder>(f: &mut F, files: &BlockFiles, node: Addr) -> Result<Opt
 
     // Too few bytes, or a word that names no node, which no observable folder gives in whose list the node is.
     ensures damaged { IfDamaged result (IsNodeLinkDamage node NodeView.NEXT files.now (F.told f.old)) }
-    ensures untold { UndamagedWithBoth result (F.told f.old) (Agrees files.now) (IsListed node) }
+    ensures untold { UndamagedWhereBoth result (F.told f.old) (Agrees files.now) (IsListed node) }
 {
     let other = link(f, files, node, NodeView::NEXT)?;
     Ok(unless_same(node, other))
@@ -124,7 +124,7 @@ pub(crate) fn end_of_list<F: Folder>(
     ensures checked { OnOk result (ForSome (F.told folder.old).files (λ image. HasRange image index at 4)) }
     ensures reads { ReadsOnly F.told F.faults folder.old folder.new (IfDevice result) }
     ensures damaged { IfDamaged result (IsNodeWordDamage files.now (F.told folder.old) names.Index at) }
-    ensures untold { UndamagedWithBoth result (F.told folder.old) HasWholeIndex (λ image. IsNodeOrNone files.now (image_word image index at)) }
+    ensures untold { UndamagedWhereBoth result (F.told folder.old) HasWholeIndex (λ image. IsNodeOrNone files.now (image_word image index at)) }
 {
     let found = word(folder, at)?;
     if found == 0 {

@@ -3,7 +3,7 @@ ghost use Rattle.std.specs.Prelude.{◌≡◌, ◌<◌, ◌≤◌, ◌%◌, [], 
 ghost use Rattle.std.specs.Option.{ForSome};
 ghost use Rattle.spec_image.specs.Image.{Index as index};
 ghost use Rattle.spec_image.specs.Steps.{word_step};
-ghost use Rattle.spec_image.specs.Told.{Applies, AppliesPrefix, MakesPartOf, Rises, MayWrite};
+ghost use Rattle.spec_image.specs.Told.{Applies, AppliesPrefix, MakesPartOf, Rises, MayWrite, MakesSteps};
 ghost use Rattle.spec_format.specs.Headers.{header_length, HasWholeIndex};
 ghost use Rattle.spec_format.specs.Sealed.{sealed_steps};
 ghost use Rattle.spec_folder.specs.View.{list_of};
@@ -14,7 +14,6 @@ ghost use Rattle.blk_disk.specs.Tables.{Agrees, is_node_among};
 ghost use Rattle.blk_lru.specs.Damages.{IsWrongNode};
 ghost use Rattle.blk_lru.specs.Nodes.{IsLinkPlace};
 ghost use Rattle.blk_lru.specs.Writes.{meant};
-ghost use Rattle.blk_lru.specs.ListClauses.{MakesAllOf};
 ghost use Rattle.blk_disk.specs.Open.{IsOpen};
 
 use crate::reading::{HEAD, TAIL};
@@ -56,7 +55,7 @@ pub(crate) fn perform<F: Folder>(
     requires words { AllWriteWords (map meant writes.now) }
     requires is_open { ForSome (F.told folder.old).files (IsOpen files.now) }
     ensures checked { OnOk result (ForSome (F.told folder.old).files (λ image. CanBeMade image (map meant writes.now))) }
-    ensures steps { OnOk result (MakesAllOf (F.told folder.old) (F.told folder.new) (λ from. steps_of_writes (map meant writes.now) from)) }
+    ensures steps { OnOk result (MakesSteps (F.told folder.old) (F.told folder.new) (λ from. steps_of_writes (map meant writes.now) from)) }
     ensures prefix { MakesPartOf (F.told folder.old) (F.told folder.new) (λ from. steps_of_writes (map meant writes.now) from) }
     ensures is_open { ForSome (F.told folder.new).files (IsOpen files.now) }
     ensures damaged { IfDamaged result (IsWrongNode files.now (F.told folder.new)) }
@@ -76,7 +75,7 @@ fn write_one<F: Folder>(folder: &mut F, files: &BlockFiles, write: Write) -> Res
     requires stand { AreOf (λ n. is_node_among files.now n ≡ true) (meant write ∷ []) }
     requires is_open { ForSome (F.told folder.old).files (IsOpen files.now) }
     ensures checked { OnOk result (ForSome (F.told folder.old).files (λ image. AreOf (λ n. (list_of image).checks n ≡ true) (meant write ∷ []))) }
-    ensures steps { OnOk result (MakesAllOf (F.told folder.old) (F.told folder.new) (λ from. write_steps (meant write) from)) }
+    ensures steps { OnOk result (MakesSteps (F.told folder.old) (F.told folder.new) (λ from. write_steps (meant write) from)) }
     ensures prefix { MakesPartOf (F.told folder.old) (F.told folder.new) (λ from. write_steps (meant write) from) }
     ensures damaged { IfDamaged result (IsWrongNode files.now (F.told folder.new)) }
     ensures untold { UndamagedWhere result (F.told folder.old) (λ image. AreOf (λ n. (list_of image).checks n ≡ true) (meant write ∷ [])) }
@@ -105,7 +104,7 @@ fn set_link<F: Folder>(
     requires stands { is_node_among files.now node ≡ true }
     requires agrees { ForSome (F.told folder.old).files (Agrees files.now) }
     ensures checked { OnOk result (ForSome (F.told folder.old).files (λ image. (list_of image).checks node ≡ true)) }
-    ensures steps { OnOk result (MakesAllOf (F.told folder.old) (F.told folder.new) (λ from. sealed_steps from node ((at, word) ∷ []))) }
+    ensures steps { OnOk result (MakesSteps (F.told folder.old) (F.told folder.new) (λ from. sealed_steps from node ((at, word) ∷ []))) }
     ensures prefix { MakesPartOf (F.told folder.old) (F.told folder.new) (λ from. sealed_steps from node ((at, word) ∷ [])) }
     ensures damaged { IfDamaged result (IsWrongNode files.now (F.told folder.new)) }
     ensures untold { UndamagedWhere result (F.told folder.old) (λ image. (list_of image).checks node ≡ true) }

@@ -78,5 +78,5 @@ pub record IsIndexMended (entry from image : Image) : Type 0 where
   pub sealed : AreKeptSealed from → AreKeptSealed image
 
 -- too few bytes were read of the session's number, or of the header of the index
-abbrev pub IsShortHeader : Told → Damage → Type 0
-IsShortHeader told damage = IsShort told names.Index this_id_place 4 damage ⊎ IsShort told names.Index 0 header_length damage
+abbrev pub IsShortIndexHeader : Told → Damage → Type 0
+IsShortIndexHeader told damage = IsShort told names.Index this_id_place 4 damage ⊎ IsShort told names.Index 0 header_length damage

@@ -26,7 +26,7 @@ use Rattle.law_recovery.specs.MendedLinks.{HasMendedLinks}
 use Rattle.blk_scan.specs.declared.chains.KeptChains.{KeptChains}
 use Rattle.blk_scan.specs.declared.scan.Scan.{Scan}
 use Rattle.blk_scan.specs.Scans.{AreChainsTold, IsScanOf}
-use Rattle.blk_repair.specs.Counters.{IsShortHeader, index_steps}
+use Rattle.blk_repair.specs.Counters.{IsShortIndexHeader, index_steps}
 use Rattle.blk_repair.specs.Damages.{IsChainsRepairDamage, IsListRepairDamage}
 use Rattle.blk_repair.specs.Deletions.{DeletesOthers}
 use Rattle.blk_repair.specs.Maps.{Rebuilds}
@@ -124,7 +124,7 @@ IsLinksRepairDamage files told damage = IsListRepairDamage files told damage ⊎
 
 -- a failed check in the rest of the recovery: of a record or node that gets its checksum, or of the index header
 abbrev pub IsRestRepairDamage : BlockFiles → Told → Damage → Type 0
-IsRestRepairDamage files told damage = IsWrongSealed files told damage ⊎ IsShortHeader told damage
+IsRestRepairDamage files told damage = IsWrongSealed files told damage ⊎ IsShortIndexHeader told damage
 
 -- a failed check in the recovery after the links: too few bytes of a block file's header, or one in the rest
 abbrev pub IsBehindRepairDamage : BlockFiles → Told → Damage → Type 0

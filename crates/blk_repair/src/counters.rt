@@ -7,7 +7,7 @@ ghost use Rattle.spec_image.specs.Told.{Applies, AppliesPrefix, MakesPartOf, Pas
 ghost use Rattle.spec_format.specs.Headers.{HasWholeIndex, header_length};
 ghost use Rattle.spec_format.specs.Sealed.{AreDifferent};
 ghost use Rattle.blk_io.specs.Faults.{IfDamaged, IfDevice};
-ghost use Rattle.blk_repair.specs.Counters.{HasIndexWords, IsIndexMended, IsNextCounted, IsShortHeader, found_word_steps, index_steps, index_words_steps};
+ghost use Rattle.blk_repair.specs.Counters.{HasIndexWords, IsIndexMended, IsNextCounted, IsShortIndexHeader, found_word_steps, index_steps, index_words_steps};
 ghost use Rattle.blk_repair.specs.Seals.{HasMendedLinksOf};
 ghost use Rattle.blk_repair.specs.RepairClauses.{DoesAll, ForEntry, Leaves, OnImage};
 
@@ -44,7 +44,7 @@ pub fn mend_index<F: Folder>(
     ensures fits { bytes < 2 ^ 64 }
 
     // An observable folder reports no corruption.
-    ensures damaged { IfDamaged result (IsShortHeader (F.told folder.new)) }
+    ensures damaged { IfDamaged result (IsShortIndexHeader (F.told folder.new)) }
     ensures untold { IfDamaged result (λ _. (F.told folder.old).files ≡ None) }
 
     ensures later { F.faults folder.old ≤ F.faults folder.new }

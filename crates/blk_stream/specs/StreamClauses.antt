@@ -33,8 +33,8 @@ abbrev pub MakesWhole : (old new : Told) → (steps_on : Image → List TrailSte
 MakesWhole old new steps_on = ForSome old.files (λ from. Applies old new (steps_on from))
 
 -- where P holds of the folder before a call and the answer is Ok, the answer and the folder that it leaves are in relation Q to that one
-abbrev pub OkLeaves : {A E : Type 0} → Result A E → (old new : Told) → (Image → Type 0) → (A → Image → Image → Type 0) → Type 0
-OkLeaves result old new P Q = IfOk result (λ answer. ForSome old.files (λ from. P from → ForSome new.files (Q answer from)))
+abbrev pub OkEndsWhere : {A E : Type 0} → Result A E → (old new : Told) → (Image → Type 0) → (A → Image → Image → Type 0) → Type 0
+OkEndsWhere result old new P Q = IfOk result (λ answer. ForSome old.files (λ from. P from → ForSome new.files (Q answer from)))
 
 -- Records whose bytes were read.
 

@@ -51,6 +51,7 @@ use Rattle.blk_verdict.specs.declared.fitting.Sought.{Sought}
 use Rattle.blk_verdict.specs.declared.kept.KeptSoFar.{KeptSoFar}
 use Rattle.blk_verdict.specs.declared.loading.Loaded.{Loaded}
 use Rattle.blk_verdict.specs.declared.loading.Verdict.{Verdict}
+use Rattle.blk_verdict.specs.declared.passes.Judged.{Judged}
 use Rattle.blk_verdict.specs.declared.passes.Tried.{Tried}
 use Rattle.blk_verdict.specs.declared.reason.Reason.{Reason}
 use Rattle.blk_verdict.specs.declared.roles.Role.{Role}
@@ -143,8 +144,8 @@ abbrev pub repeats_with : KeptSoFar → Loaded → Bool
 repeats_with so_far loaded = repeats (claims_of_all (addresses_of_all so_far.kept.items ++ addresses_of loaded))
 
 -- P holds of what a node of the image loads, as which the entry is in memory
-abbrev pub ForLoaded : Loaded → (shown.Loaded → Type 0) → Image → Type 0
-ForLoaded said P image = (loaded : shown.Loaded) → IsLoadedFrom image loaded said → P loaded
+abbrev pub ForLoadedNode : Loaded → (shown.Loaded → Type 0) → Image → Type 0
+ForLoadedNode said P image = (loaded : shown.Loaded) → IsLoadedFrom image loaded said → P loaded
 
 -- `has` says whether the entry is the one that is sought, for its own key
 abbrev pub IsSoughtItself : Sought → Loaded → (has : Bool) → Image → Type 0
@@ -280,14 +281,14 @@ AllAreAnswered tried image =
     (node : ℕ) → is_among (completed_walk image) node ≡ true → IsAnswered (completed_walk image) tried node (audit.verdict_on (audit.judged (store_of image) held_rule (completed_walk image)) node)
 
 -- where the table and the lists are those of the image, those of the pass were tried after the nodes that were tried before
-abbrev pub TriesPass : Told → BlockFiles → Lists → (children : Bool) → (old : KeptSoFar) → (old_tried : List Tried) → (new : KeptSoFar) → (new_tried : List Tried) → Type 0
-TriesPass told files lists children old old_tried new new_tried =
-    WhereRead told files lists (λ image. (before : List ℕ) → AreTried image (nodes_walked lists.walked) before old.kept.items old_tried → AreTried image (nodes_walked lists.walked) (before ++ of_pass (store_of image) children (nodes_walked lists.walked)) new.kept.items new_tried)
+abbrev pub TriesPass : Told → BlockFiles → Lists → (children : Bool) → (old new : Judged) → Type 0
+TriesPass told files lists children old new =
+    WhereRead told files lists (λ image. (before : List ℕ) → AreTried image (nodes_walked lists.walked) before old.kept.kept.items old.tried.items → AreTried image (nodes_walked lists.walked) (before ++ of_pass (store_of image) children (nodes_walked lists.walked)) new.kept.kept.items new.tried.items)
 
 -- where the table and the lists are those of the image, the nodes of the pass before walked node i were tried, and node i if it is of the pass
-abbrev pub TriesAt : Told → BlockFiles → Lists → (i : ℕ) → (children : Bool) → (old : KeptSoFar) → (old_tried : List Tried) → (new : KeptSoFar) → (new_tried : List Tried) → Type 0
-TriesAt told files lists i children old old_tried new new_tried =
-    WhereRead told files lists (λ image. (before : List ℕ) (w : ℕ) → slice_get (nodes_walked lists.walked) i ≡ Some w → AreTried image (nodes_walked lists.walked) before old.kept.items old_tried → AreTried image (nodes_walked lists.walked) (before ++ of_pass (store_of image) children (w ∷ [])) new.kept.items new_tried)
+abbrev pub TriesAt : Told → BlockFiles → Lists → (i : ℕ) → (children : Bool) → (old new : Judged) → Type 0
+TriesAt told files lists i children old new =
+    WhereRead told files lists (λ image. (before : List ℕ) (w : ℕ) → slice_get (nodes_walked lists.walked) i ≡ Some w → AreTried image (nodes_walked lists.walked) before old.kept.kept.items old.tried.items → AreTried image (nodes_walked lists.walked) (before ++ of_pass (store_of image) children (w ∷ [])) new.kept.kept.items new.tried.items)
 
 -- where the trial could be made, the image has the keys of the new entries
 abbrev pub KeepsKeysTried : BlockFiles → Lists → (old new : KeptSoFar) → Image → Type 0

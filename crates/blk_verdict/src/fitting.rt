@@ -10,7 +10,7 @@ ghost use Rattle.blk_verdict.specs.Kept.{HasPartNumber, is_parent_said, is_part_
 ghost use Rattle.blk_verdict.specs.Readable.{HasReadableIndex, IsReadable};
 ghost use Rattle.blk_verdict.specs.Reads.{IsCutRead};
 ghost use Rattle.blk_verdict.specs.declared.fitting.Sought.TheVariants as variant;
-ghost use Rattle.blk_verdict.specs.VerdictClauses.{ChecksPass, ForLoaded, IsSoughtItself, WhereAgrees};
+ghost use Rattle.blk_verdict.specs.VerdictClauses.{ChecksPass, ForLoadedNode, IsSoughtItself, WhereAgrees};
 
 use crate::loading::Loaded;
 use crate::parts::has_part;
@@ -89,7 +89,7 @@ pub(crate) fn fits<F: Folder>(
 ) -> Result<bool, Fault>
     requires readable { IsReadable files.now kept.now }
     requires part { HasPartNumber sought }
-    ensures fits { IfOk result (λ fits. WhereAgrees (F.told folder.old) files.now (ForLoaded kept.now (λ loaded. fits ≡ is_sought sought key.now loaded))) }
+    ensures fits { IfOk result (λ fits. WhereAgrees (F.told folder.old) files.now (ForLoadedNode kept.now (λ loaded. fits ≡ is_sought sought key.now loaded))) }
     ensures reads { ReadsOnly F.told F.faults folder.old folder.new (IfDevice result) }
     ensures short { IfDamaged result (IsCutRead files.now (F.told folder.old)) }
     ensures untold { ChecksPass result (F.told folder.old) files.now (λ image. HasItsKey image kept.now) }

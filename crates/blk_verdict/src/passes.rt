@@ -62,14 +62,14 @@ pub fn judge_nodes<F: Folder>(
     ensures short { IfScanDamaged result (IsCutRead files.now (F.told folder.old)) }
     ensures untold { ScanPasses result (F.told folder.old) files.now (λ image. AreListsOf image lists.now) }
 {
-    let mut kept = KeptSoFar::none(alloc);
-    let mut tried = Vec::new(alloc);
+    let mut judged = Judged {
+        kept: KeptSoFar::none(alloc),
+        tried: Vec::new(alloc),
+    };
     let mut name = [0u8; LONGEST_NAME as usize];
-    try_pass(
-        folder, files, lists, false, &mut kept, &mut tried, &mut name,
-    )?;
-    try_pass(folder, files, lists, true, &mut kept, &mut tried, &mut name)?;
-    Ok(Judged { kept, tried })
+    try_pass(folder, files, lists, false, &mut judged, &mut name)?;
+    try_pass(folder, files, lists, true, &mut judged, &mut name)?;
+    Ok(judged)
 }
 
 // Tries the walked nodes of a pass in their order: those of parts, or the others.
@@ -81,21 +81,20 @@ pub(crate) fn try_pass<F: Folder>(
     files: &BlockFiles,
     lists: &Lists,
     children: bool,
-    kept: &mut KeptSoFar,
-    tried: &mut Vec<Tried>,
+    judged: &mut Judged,
     name: &mut [u8],
 ) -> Result<(), ScanFault>
-    requires order { IsKeptInOrder files.now kept.old }
+    requires order { IsKeptInOrder files.now judged.old.kept }
     requires room { length name.old ≡ most_key }
-    ensures tried { OnOk result (TriesPass (F.told folder.old) files.now lists.now children kept.old tried.old.items kept.new tried.new.items) }
-    ensures keys { OnOk result (ForSome (F.told folder.old).files (KeepsKeysTried files.now lists.now kept.old kept.new)) }
-    ensures order { OnOk result (IsKeptInOrder files.now kept.new) }
+    ensures tried { OnOk result (TriesPass (F.told folder.old) files.now lists.now children judged.old judged.new) }
+    ensures keys { OnOk result (ForSome (F.told folder.old).files (KeepsKeysTried files.now lists.now judged.old.kept judged.new.kept)) }
+    ensures order { OnOk result (IsKeptInOrder files.now judged.new.kept) }
     ensures reads { ReadsOnly F.told F.faults folder.old folder.new (IfScanDevice result) }
     ensures short { IfScanDamaged result (IsCutRead files.now (F.told folder.old)) }
-    ensures untold { ScanPassesWhere result (F.told folder.old) (CanBeTried files.now lists.now kept.old.kept.items) }
+    ensures untold { ScanPassesWhere result (F.told folder.old) (CanBeTried files.now lists.now judged.old.kept.kept.items) }
 {
     for i in 0..lists.walked.count() {
-        try_at(folder, files, lists, i, children, kept, tried, name)?;
+        try_at(folder, files, lists, i, children, judged, name)?;
     }
     Ok(())
 }
@@ -107,26 +106,25 @@ fn try_at<F: Folder>(
     lists: &Lists,
     i: usize,
     children: bool,
-    kept: &mut KeptSoFar,
-    tried: &mut Vec<Tried>,
+    judged: &mut Judged,
     name: &mut [u8],
 ) -> Result<(), ScanFault>
-    requires order { IsKeptInOrder files.now kept.old }
+    requires order { IsKeptInOrder files.now judged.old.kept }
     requires room { length name.old ≡ most_key }
-    ensures tried { OnOk result (TriesAt (F.told folder.old) files.now lists.now i children kept.old tried.old.items kept.new tried.new.items) }
-    ensures keys { OnOk result (ForSome (F.told folder.old).files (KeepsKeysTried files.now lists.now kept.old kept.new)) }
-    ensures order { OnOk result (IsKeptInOrder files.now kept.new) }
+    ensures tried { OnOk result (TriesAt (F.told folder.old) files.now lists.now i children judged.old judged.new) }
+    ensures keys { OnOk result (ForSome (F.told folder.old).files (KeepsKeysTried files.now lists.now judged.old.kept judged.new.kept)) }
+    ensures order { OnOk result (IsKeptInOrder files.now judged.new.kept) }
     ensures reads { ReadsOnly F.told F.faults folder.old folder.new (IfScanDevice result) }
     ensures short { IfScanDamaged result (IsCutRead files.now (F.told folder.old)) }
-    ensures untold { ScanPassesWhere result (F.told folder.old) (CanBeTried files.now lists.now kept.old.kept.items) }
+    ensures untold { ScanPassesWhere result (F.told folder.old) (CanBeTried files.now lists.now judged.old.kept.kept.items) }
 {
     let Some(here) = lists.node(i) else {
         return Ok(());
     };
     let child = is_child(folder, files, lists, &here)?;
     if is_of_pass(children, child) {
-        let reason = judge_walked(folder, files, lists, kept, &here, name)?;
-        push(tried, Tried { place: i, reason })?;
+        let reason = judge_walked(folder, files, lists, &mut judged.kept, &here, name)?;
+        push(&mut judged.tried, Tried { place: i, reason })?;
     }
     Ok(())
 }

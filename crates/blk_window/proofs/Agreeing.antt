@@ -6,7 +6,7 @@ use Rattle.spec_image.specs.Bytes.{range_at}
 use Rattle.spec_image.specs.Image.{File, Image, byte, length_of}
 use Rattle.spec_image.specs.Told.{GivesBytes}
 use Rattle.spec_image.proofs.Words.{length-range}
-use Rattle.blk_window.specs.Held.{Page, is_page, page_in, is_held, without, used, dropped, HoldsFileBytes, IsPageUsed, page_at}
+use Rattle.blk_window.specs.Held.{Page, is_page, page_in, is_held, without, pages_used, dropped, HoldsFileBytes, IsPageUsed, page_at}
 use Rattle.blk_window.specs.Slots.{Copies}
 use Rattle.blk_window.proofs.Lists.{pick, none_of}
 use Rattle.blk_window.proofs.HeldLists.{named}
@@ -46,7 +46,7 @@ all_without P file number (x ∷ held) all = pick (is_page file number x)
     (λ hit. subst (All P) (ap (λ b. if b then held else x ∷ without file number held) (sym hit)) (rest_of P x held all))
     (λ miss. subst (All P) (ap (λ b. if b then held else x ∷ without file number held) (sym miss)) (All-cons P x (without file number held) (first_of P x held all) (all_without P file number held (rest_of P x held all))))
 
-pub all_used : (P : Page → Type 0) (places : ℕ) (p : Page) (held : List Page) → P p → All P held → All P (used places p held)
+pub all_used : (P : Page → Type 0) (places : ℕ) (p : Page) (held : List Page) → P p → All P held → All P (pages_used places p held)
 all_used P places p held one all = All-cons P p (take (places - 1) (without p.file p.number held)) one (All-take P (places - 1) (without p.file p.number held) (all_without P p.file p.number held all))
 
 -- whether a page is held is whether it is found
@@ -79,7 +79,7 @@ pub used_new : (file : File) (number : ℕ) (held : List Page) (p : Page) → is
 used_new file number held p missing is = record { named = is; same = λ one there. none_some (sym (not_found file number held missing) ∙ there) }
 
 -- a new page before those that are left
-pub new_front : (file : File) (number places : ℕ) (held : List Page) (p : Page) → is_held file number held ≡ false → is_page file number p ≡ true → p ∷ dropped places held ≡ used places p held
+pub new_front : (file : File) (number places : ℕ) (held : List Page) (p : Page) → is_held file number held ≡ false → is_page file number p ≡ true → p ∷ dropped places held ≡ pages_used places p held
 new_front file number places held p missing is =
     let name = named file number p is in
     ap (λ l. p ∷ take (places - 1) l) (sym (ap (λ f. without f p.number held) name.0 ∙ ap (λ n. without file n held) name.1 ∙ without_absent file number held missing))

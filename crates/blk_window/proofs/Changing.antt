@@ -15,7 +15,7 @@ use Rattle.spec_image.proofs.Images.{with_file-other, with_file-same, same_file-
 use Rattle.spec_image.proofs.Runs.{along_prefix}
 use Rattle.spec_image.proofs.Splices.{length-spliced, spliced-none}
 use Rattle.spec_image.proofs.Words.{range-is, length-range}
-use Rattle.blk_window.specs.Held.{Page, HoldsFileBytes, unless_of, reaches, overwritten, written, rewritten}
+use Rattle.blk_window.specs.Held.{Page, HoldsFileBytes, unless_of, reaches, page_overwritten, written, rewritten}
 use Rattle.blk_window.proofs.Lists.{pick}
 use Rattle.blk_window.proofs.Overwriting.{take-spliced}
 
@@ -86,7 +86,7 @@ unfolding range_at
 nothing_there f i = refl
 
 -- a page of the file that was written agrees with what it holds now
-agrees_over : (file : File) (at : ℕ) (bytes : List ℕ) (image : Image) (page : Page) → same_file page.file file ≡ true → HoldsFileBytes image page → HoldsFileBytes (after (words file at bytes) image) (overwritten at bytes page)
+agrees_over : (file : File) (at : ℕ) (bytes : List ℕ) (image : Image) (page : Page) → same_file page.file file ≡ true → HoldsFileBytes image page → HoldsFileBytes (after (words file at bytes) image) (page_overwritten at bytes page)
 agrees_over file at bytes image page same agrees = of_file (same_file-true page.file file same)
   where
     start : ℕ
@@ -110,7 +110,7 @@ agrees_over file at bytes image page same agrees = of_file (same_file-true page.
         empty none = omega (arith, none)
     by_length (suc k) some = range-spliced at start m bytes old (omega (arith, some))
 
-    of_file : page.file ≡ file → HoldsFileBytes (after (words file at bytes) image) (overwritten at bytes page)
+    of_file : page.file ≡ file → HoldsFileBytes (after (words file at bytes) image) (page_overwritten at bytes page)
     of_file is =
         ap (spliced (at - start) (drop (start - at) bytes)) (agrees ∙ ap (λ f. range_at (byte image f) start (min 4096 (length_of image f - start))) is)
         ∙ sym (by_length (length old - start) refl)
@@ -143,11 +143,11 @@ agree_written file at bytes (page ∷ held) image all = by_page (agree_written f
 
     one : (p : Page) → written file at bytes page ≡ Some p → HoldsFileBytes new p
     one p is = pick (same_file page.file file)
-        (λ hit. let e = sym (ap (λ b. if b then (if reaches (at + length bytes) page then Some (overwritten at bytes page) else None) else Some page) hit) ∙ is in
+        (λ hit. let e = sym (ap (λ b. if b then (if reaches (at + length bytes) page then Some (page_overwritten at bytes page) else None) else Some page) hit) ∙ is in
         pick (reaches (at + length bytes) page)
-        (λ whole. subst (HoldsFileBytes new) (inj (sym (ap (λ b. if b then Some (overwritten at bytes page) else None) whole) ∙ e)) (agrees_over file at bytes image page hit first))
-        (λ cut. never (sym (ap (λ b. if b then Some (overwritten at bytes page) else None) cut) ∙ e)))
-        (λ miss. subst (HoldsFileBytes new) (inj (sym (ap (λ b. if b then (if reaches (at + length bytes) page then Some (overwritten at bytes page) else None) else Some page) miss) ∙ is)) (same_there image new page (others_stay file at bytes image page.file miss) first))
+        (λ whole. subst (HoldsFileBytes new) (inj (sym (ap (λ b. if b then Some (page_overwritten at bytes page) else None) whole) ∙ e)) (agrees_over file at bytes image page hit first))
+        (λ cut. never (sym (ap (λ b. if b then Some (page_overwritten at bytes page) else None) cut) ∙ e)))
+        (λ miss. subst (HoldsFileBytes new) (inj (sym (ap (λ b. if b then (if reaches (at + length bytes) page then Some (page_overwritten at bytes page) else None) else Some page) miss) ∙ is)) (same_there image new page (others_stay file at bytes image page.file miss) first))
 
     by_page : All (HoldsFileBytes new) (filter_map (written file at bytes) held) → (o : Option Page) → written file at bytes page ≡ o → All (HoldsFileBytes new) (cons_option (written file at bytes page) (filter_map (written file at bytes) held))
     by_page more None is = subst (λ o. All (HoldsFileBytes new) (cons_option o (filter_map (written file at bytes) held))) (sym is) more
@@ -159,11 +159,11 @@ none_dropped file at bytes [] image inside all = refl
 none_dropped file at bytes (page ∷ held) image inside all =
     let more = none_dropped file at bytes held image inside (rest_of (HoldsFileBytes image) page held all) in
     pick (same_file page.file file)
-    (λ hit. ap (λ b. cons_option (if b then (if reaches (at + length bytes) page then Some (overwritten at bytes page) else None) else Some page) (filter_map (written file at bytes) held)) hit
-    ∙ ap (λ b. cons_option (if b then Some (overwritten at bytes page) else None) (filter_map (written file at bytes) held)) (reached (same_file-true page.file file hit))
-    ∙ ap (λ l. overwritten at bytes page ∷ l) more ∙ ap (λ b. (if b then overwritten at bytes page else page) ∷ map (rewritten file at bytes) held) (sym hit))
-    (λ miss. ap (λ b. cons_option (if b then (if reaches (at + length bytes) page then Some (overwritten at bytes page) else None) else Some page) (filter_map (written file at bytes) held)) miss
-    ∙ ap (λ l. page ∷ l) more ∙ ap (λ b. (if b then overwritten at bytes page else page) ∷ map (rewritten file at bytes) held) (sym miss))
+    (λ hit. ap (λ b. cons_option (if b then (if reaches (at + length bytes) page then Some (page_overwritten at bytes page) else None) else Some page) (filter_map (written file at bytes) held)) hit
+    ∙ ap (λ b. cons_option (if b then Some (page_overwritten at bytes page) else None) (filter_map (written file at bytes) held)) (reached (same_file-true page.file file hit))
+    ∙ ap (λ l. page_overwritten at bytes page ∷ l) more ∙ ap (λ b. (if b then page_overwritten at bytes page else page) ∷ map (rewritten file at bytes) held) (sym hit))
+    (λ miss. ap (λ b. cons_option (if b then (if reaches (at + length bytes) page then Some (page_overwritten at bytes page) else None) else Some page) (filter_map (written file at bytes) held)) miss
+    ∙ ap (λ l. page ∷ l) more ∙ ap (λ b. (if b then page_overwritten at bytes page else page) ∷ map (rewritten file at bytes) held) (sym miss))
   where
     size : length page.bytes ≡ min 4096 (length_of image page.file - 4096 * page.number)
     size = ap length (first_of (HoldsFileBytes image) page held all) ∙ length-range (min 4096 (length_of image page.file - 4096 * page.number)) (4096 * page.number) (byte image page.file)

@@ -10,7 +10,7 @@ use Rattle.std.proofs.Math.Seq.{take-append_seam}
 use Rattle.std.proofs.lemmas.Map.Keys.{IsDistinct-head, IsDistinct-tail}
 use Rattle.spec_image.specs.Image.{File, same_file}
 use Rattle.spec_image.proofs.Images.{same_file-true}
-use Rattle.blk_window.specs.Held.{Page, is_page, page_in, is_held, without, used, dropped}
+use Rattle.blk_window.specs.Held.{Page, is_page, page_in, is_held, without, pages_used, dropped}
 use Rattle.std.proofs.lemmas.Map.{keys-set_value}
 use Rattle.std.proofs.lemmas.Map.Steps.{set_value_same}
 use Rattle.blk_window.proofs.Lists.{pick, none_of, is_number, Split, split, AreSlots, Found, found, split_found, apart, lookup-split, moved, moved_and_set, set_in_place, slots_moved, slots_same, keys_moved}
@@ -92,7 +92,7 @@ module _ {V : Type 0} (see : V → Option Page) where
   -- the slot of a page in front
   pub record InFront (file : File) (number places : ℕ) (es : List (ℕ × V)) (slot : ℕ × V) (rest : List (ℕ × V)) (page : Page) : Type 0 where
     pub there : page_in file number (held es) ≡ Some page
-    pub front : held (slot ∷ rest) ≡ used places page (held es)
+    pub front : held (slot ∷ rest) ≡ pages_used places page (held es)
 
   pub moves_page : (file : File) (number places : ℕ) (es : List (ℕ × V)) (slot : ℕ × V) → length es ≡ places → (f : Found (shows file number) es slot) → (p : Page) → see slot.1 ≡ Some p → is_page file number p ≡ true
       → InFront file number places es slot (f.front ++ f.behind) p
@@ -425,7 +425,7 @@ module _ {V : Type 0} (see : V → Option Page) where
     pub sees : see value ≡ Some page
     pub is : is_page file number page ≡ true
     pub first : page_in file number (filter_map (λ slot. see slot.1) es) ≡ Some page
-    pub front : filter_map (λ slot. see slot.1) (set_value (nat_eq k) (moved k es) value) ≡ used places page (filter_map (λ slot. see slot.1) es)
+    pub front : filter_map (λ slot. see slot.1) (set_value (nat_eq k) (moved k es) value) ≡ pages_used places page (filter_map (λ slot. see slot.1) es)
 
   pub shown_at : (file : File) (number places k : ℕ) (es : List (ℕ × V)) → AreSlots places es → Some k ≡ option_map (λ (slot : ℕ × V). slot.0) (find (λ slot. shows see file number slot.1) es) → Shown file number places k es
   shown_at file number places k es a h = by_slot (find (λ slot. shows see file number slot.1) es) refl h
@@ -466,11 +466,11 @@ module _ {V : Type 0} (see : V → Option Page) where
 
   -- what a slot that was found and moved to the front leaves
   pub reads : (file : File) (number places k : ℕ) (es : List (ℕ × V)) (now : V) (x : Page) → Shown file number places k es → lookup (nat_eq k) es ≡ Some now → page_in file number (filter_map (λ slot. see slot.1) es) ≡ Some x
-      → (filter_map (λ slot. see slot.1) (set_value (nat_eq k) (moved k es) now) ≡ used places x (filter_map (λ slot. see slot.1) es)) × (see now ≡ Some x)
+      → (filter_map (λ slot. see slot.1) (set_value (nat_eq k) (moved k es) now) ≡ pages_used places x (filter_map (λ slot. see slot.1) es)) × (see now ≡ Some x)
   reads file number places k es now x s there is =
       let same : s.value ≡ now = inj (sym s.there ∙ there) in
       let page : s.page ≡ x = inj_page (sym s.first ∙ is) in
-      (ap (λ v. filter_map (λ slot. see slot.1) (set_value (nat_eq k) (moved k es) v)) (sym same) ∙ s.front ∙ ap (λ p. used places p (filter_map (λ slot. see slot.1) es)) page, ap see (sym same) ∙ s.sees ∙ ap Some page)
+      (ap (λ v. filter_map (λ slot. see slot.1) (set_value (nat_eq k) (moved k es) v)) (sym same) ∙ s.front ∙ ap (λ p. pages_used places p (filter_map (λ slot. see slot.1) es)) page, ap see (sym same) ∙ s.sees ∙ ap Some page)
     where
       inj : {a b : V} → Some a ≡ Some b → a ≡ b
       inj c = cc

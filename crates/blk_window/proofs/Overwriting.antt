@@ -7,7 +7,7 @@ use Rattle.spec_image.specs.Bytes.{spliced}
 use Rattle.spec_image.specs.Image.{File, same_file}
 use Rattle.spec_image.proofs.Splices.{spliced-none}
 use Rattle.blk_io.proofs.Splicing.{spliced-past}
-use Rattle.blk_window.specs.Held.{Page, is_page, reaches, overwritten, unless_of, written}
+use Rattle.blk_window.specs.Held.{Page, is_page, reaches, page_overwritten, unless_of, written}
 use Rattle.blk_window.proofs.Lists.{pick, none_of}
 
 -- the first bytes of what is written over
@@ -29,16 +29,16 @@ overwrites false of file number count at items bytes new same there is = refl
 overwrites true of file number count at items bytes new same there is =
     let page : Page = record { file = of; number = number; bytes = take count items } in
     ap (λ l. slot_of true of number l) (ap (take count) is ∙ take-spliced count (at - 4096 * number) (drop (4096 * number - at) bytes) items)
-    ∙ ap (λ b. if b then Some (overwritten at bytes page) else None) (there page refl)
-    ∙ ap (λ b. if b then (if reaches (at + length bytes) page then Some (overwritten at bytes page) else None) else Some page) (sym same)
+    ∙ ap (λ b. if b then Some (page_overwritten at bytes page) else None) (there page refl)
+    ∙ ap (λ b. if b then (if reaches (at + length bytes) page then Some (page_overwritten at bytes page) else None) else Some page) (sym same)
 
 pub cut_off : (held : Bool) (of file : File) (number at : ℕ) (kept bytes : List ℕ) → same_file of file ≡ true → ForSome (slot_of held of number kept) (λ page. false ≡ reaches (at + length bytes) page)
     → None ≡ option_and_then (written file at bytes) (slot_of held of number kept)
 cut_off false of file number at kept bytes same there = refl
 cut_off true of file number at kept bytes same there =
     let page : Page = record { file = of; number = number; bytes = kept } in
-    ap (λ b. if b then Some (overwritten at bytes page) else None) (there page refl)
-    ∙ ap (λ b. if b then (if reaches (at + length bytes) page then Some (overwritten at bytes page) else None) else Some page) (sym same)
+    ap (λ b. if b then Some (page_overwritten at bytes page) else None) (there page refl)
+    ∙ ap (λ b. if b then (if reaches (at + length bytes) page then Some (page_overwritten at bytes page) else None) else Some page) (sym same)
 
 not_less : (a b : ℕ) → nat_lt a b ≡ false → b ≤ a
 not_less a b e = grind (arith, nat_tests)
@@ -62,9 +62,9 @@ untouched true of file number count at items bytes apart there = by_file (same_f
     page : Page
     page = record { file = of; number = number; bytes = take count items }
 
-    by_file : (same : Bool) → (if same then (if reaches (at + length bytes) page then Some (overwritten at bytes page) else None) else Some page) ≡ Some page
+    by_file : (same : Bool) → (if same then (if reaches (at + length bytes) page then Some (page_overwritten at bytes page) else None) else Some page) ≡ Some page
     by_file false = refl
-    by_file true = ap (λ b. if b then Some (overwritten at bytes page) else None) (sym (there page refl)) ∙ ap (λ l. slot_of true of number l) (apart_from (4096 * number) count at items bytes apart)
+    by_file true = ap (λ b. if b then Some (page_overwritten at bytes page) else None) (sym (there page refl)) ∙ ap (λ l. slot_of true of number l) (apart_from (4096 * number) count at items bytes apart)
 
 -- whether a page has all the bytes of a range that lie in its places, by how many bytes it has
 pub reaches_by : (held : Bool) (of : File) (number count at n : ℕ) (items : List ℕ) (answer : Bool) → length items ≡ 4096 → count ≤ 4096 → answer ≡ (nat_le 4096 count || nat_le (at + n) (number * 4096 + count))
@@ -97,7 +97,7 @@ left_by_write true of file number count at items bytes whole within left = pick 
     (λ same.
     let parts = none_of (nat_lt (at - number * 4096) count && nat_lt (number * 4096 - at) (length bytes)) (not reach) (sym (ap (λ b. b && ((nat_lt (at - number * 4096) count && nat_lt (number * 4096 - at) (length bytes)) || not reach)) same) ∙ left) in
     untouched true of file number count at items bytes (ap (λ s. nat_lt (at - s) count && nat_lt (s - at) (length bytes)) turn ∙ parts.0) (reaches_by true of number count at (length bytes) items true whole within (kept reach parts.1)))
-    (λ other. ap (λ b. if b then (if reaches (at + length bytes) page then Some (overwritten at bytes page) else None) else Some page) other)
+    (λ other. ap (λ b. if b then (if reaches (at + length bytes) page then Some (page_overwritten at bytes page) else None) else Some page) other)
   where
     page : Page
     page = record { file = of; number = number; bytes = take count items }
@@ -143,7 +143,7 @@ fewer_by_write of at bytes old new is file number = fewer (written of at bytes) 
     keeps : (p : Page) → option_map_or (is_page file number) (written of at bytes p) false ≡ true → is_page file number p ≡ true
     keeps p shows = by_tests (same_file p.file of) (reaches (at + length bytes) p) shows
       where
-        by_tests : (same reach : Bool) → option_map_or (is_page file number) (if same then (if reach then Some (overwritten at bytes p) else None) else Some p) false ≡ true → is_page file number p ≡ true
+        by_tests : (same reach : Bool) → option_map_or (is_page file number) (if same then (if reach then Some (page_overwritten at bytes p) else None) else Some p) false ≡ true → is_page file number p ≡ true
         by_tests true true e = e
         by_tests true false e = clashes e
         by_tests false reach e = e

@@ -6,7 +6,7 @@ use Rattle.std.proofs.lemmas.List.{length-append, take_all}
 use Rattle.std.proofs.lemmas.List.Elements.{All-append, All-cons}
 use Rattle.spec_image.specs.Image.{File, same_file}
 use Rattle.spec_image.proofs.Images.{same_file-refl}
-use Rattle.blk_window.specs.Held.{Page, is_page, is_full, page_in, is_held, without, used, dropped, page_at, pages_of, IsPageUsed, UsesEach, AreUpTo, ReadsThrough, FailsBehind, AreHeld, HoldsRange}
+use Rattle.blk_window.specs.Held.{Page, is_page, is_full_page, page_in, is_held, without, pages_used, dropped, page_at, pages_of, IsPageUsed, UsesEach, AreUpTo, ReadsThrough, FailsBehind, AreHeld, HoldsRange}
 use Rattle.blk_window.specs.Reading.{ReadsPage}
 use Rattle.blk_window.proofs.Lists.{pick}
 use Rattle.blk_window.proofs.HeldLists.{named}
@@ -15,7 +15,7 @@ use Rattle.blk_window.proofs.Agreeing.{found_page}
 -- so many bytes were given, and full pages used; the next place is the first of the next page, or the first of all
 pub record Progress (places : ℕ) (file : File) (at n given : ℕ) (old now : List Page) : Type 0 where
   pub pages : List Page
-  pub full : All (λ page. is_full page ≡ true) pages
+  pub full : All (λ page. is_full_page page ≡ true) pages
   pub uses : UsesEach places file (page_at at) pages old now
   pub next : page_at (at + given) ≡ page_at at + length pages
   pub more : length pages < pages_of at n
@@ -46,27 +46,27 @@ begins places file at n old some = record {
     at_least at n some = omega arith
 
 -- a page more is used after others
-uses_more : (places : ℕ) (file : File) (number : ℕ) (pages old between : List Page) (page : Page) (new : List Page) → UsesEach places file number pages old between → IsPageUsed file (number + length pages) between page → new ≡ used places page between
+uses_more : (places : ℕ) (file : File) (number : ℕ) (pages old between : List Page) (page : Page) (new : List Page) → UsesEach places file number pages old between → IsPageUsed file (number + length pages) between page → new ≡ pages_used places page between
     → UsesEach places file number (pages ++ page ∷ []) old new
 uses_more places file number [] old between page new same is front =
-    (subst (λ l. IsPageUsed file number l page) same (subst (λ k. IsPageUsed file k between page) (no_more number) is), front ∙ ap (used places page) same)
+    (subst (λ l. IsPageUsed file number l page) same (subst (λ k. IsPageUsed file k between page) (no_more number) is), front ∙ ap (pages_used places page) same)
   where
     no_more : (k : ℕ) → k + 0 ≡ k
     no_more k = omega arith
 uses_more places file number (x ∷ pages) old between page new each is front =
-    (each.0, uses_more places file (suc number) pages (used places x old) between page new each.1 (subst (λ k. IsPageUsed file k between page) (one_on number (length pages)) is) front)
+    (each.0, uses_more places file (suc number) pages (pages_used places x old) between page new each.1 (subst (λ k. IsPageUsed file k between page) (one_on number (length pages)) is) front)
   where
     one_on : (k m : ℕ) → k + suc m ≡ suc k + m
     one_on k m = omega arith
 
-is_not : (page : Page) → is_full page ≡ true → is_full page ≡ false → ⊥
+is_not : (page : Page) → is_full_page page ≡ true → is_full_page page ≡ false → ⊥
 is_not page hit miss = never (sym hit ∙ miss)
   where
     never : true ≡ false → ⊥
     never c = cc
 
 -- full pages, and the last of so many or one that isn't full
-up_to : (count : ℕ) (pages : List Page) (page : Page) → All (λ p. is_full p ≡ true) pages → (length pages + 1 ≡ count) ⊎ ((is_full page ≡ false) × (length pages < count)) → AreUpTo count (pages ++ page ∷ [])
+up_to : (count : ℕ) (pages : List Page) (page : Page) → All (λ p. is_full_page p ≡ true) pages → (length pages + 1 ≡ count) ⊎ ((is_full_page page ≡ false) × (length pages < count)) → AreUpTo count (pages ++ page ∷ [])
 up_to zero [] page full (inl e) = absurd (omega (arith, e))
 up_to zero [] page full (inr e) = absurd (omega (arith, e.1))
 up_to (suc count) [] page full (inl e) = (λ hit. last count (omega (arith, e)), λ miss. refl)
@@ -79,7 +79,7 @@ up_to zero (x ∷ pages) page full (inl e) = absurd (omega (arith, e))
 up_to zero (x ∷ pages) page full (inr e) = absurd (omega (arith, e.1))
 up_to (suc count) (x ∷ pages) page full which = (λ hit. up_to count pages page (λ k d within. full (suc k) d (omega arith)) (below which), λ miss. absurd (is_not x (full 0 x (omega arith)) miss))
   where
-    below : (length (x ∷ pages) + 1 ≡ suc count) ⊎ ((is_full page ≡ false) × (length (x ∷ pages) < suc count)) → (length pages + 1 ≡ count) ⊎ ((is_full page ≡ false) × (length pages < count))
+    below : (length (x ∷ pages) + 1 ≡ suc count) ⊎ ((is_full_page page ≡ false) × (length (x ∷ pages) < suc count)) → (length pages + 1 ≡ count) ⊎ ((is_full_page page ≡ false) × (length pages < count))
     below (inl e) = inl (omega (arith, e))
     below (inr e) = inr (e.0, omega (arith, e.1))
 
@@ -100,16 +100,16 @@ none_last [] page e = cc
 none_last (b ∷ before) page e = cc
 
 -- the page is full where all of it from a place on was given
-filled : (page : Page) (place left m : ℕ) → m ≡ min (room_at place left) (length page.bytes - place % 4096) → m ≡ room_at place left → room_at place left < left → is_full page ≡ true
+filled : (page : Page) (place left m : ℕ) → m ≡ min (room_at place left) (length page.bytes - place % 4096) → m ≡ room_at place left → room_at place left < left → is_full_page page ≡ true
 filled page place left m many all inner = is_enough (omega (arith, many, all, inner))
   where
-    is_enough : 4096 ≤ length page.bytes → is_full page ≡ true
+    is_enough : 4096 ≤ length page.bytes → is_full_page page ≡ true
     is_enough enough = grind (arith, nat_tests)
 
-unfilled : (page : Page) (place left m : ℕ) → m ≡ min (room_at place left) (length page.bytes - place % 4096) → m < room_at place left → is_full page ≡ false
+unfilled : (page : Page) (place left m : ℕ) → m ≡ min (room_at place left) (length page.bytes - place % 4096) → m < room_at place left → is_full_page page ≡ false
 unfilled page place left m many less = is_less (omega (arith, many, less))
   where
-    is_less : length page.bytes < 4096 → is_full page ≡ false
+    is_less : length page.bytes < 4096 → is_full_page page ≡ false
     is_less less = grind (arith, nat_tests)
 
 -- a full page more, and bytes are left
@@ -117,7 +117,7 @@ pub goes_on : (places : ℕ) (file : File) (at n given m : ℕ) (old now new : L
     → ReadsPage places file (at + given) (room_at (at + given) (n - given)) m now new → Progress places file at n (given + m) old new
 goes_on places file at n given m old now new p less all left r = record {
   pages = p.pages ++ r.page ∷ [];
-  full = All-append (λ page. is_full page ≡ true) p.pages (r.page ∷ []) p.full (All-cons (λ page. is_full page ≡ true) r.page [] (filled r.page (at + given) (n - given) m r.many all (omega (arith, all, left))) (λ k d within. absurd (omega arith)));
+  full = All-append (λ page. is_full_page page ≡ true) p.pages (r.page ∷ []) p.full (All-cons (λ page. is_full_page page ≡ true) r.page [] (filled r.page (at + given) (n - given) m r.many all (omega (arith, all, left))) (λ k d within. absurd (omega arith)));
   uses = uses_more places file (page_at at) p.pages old now r.page new p.uses (subst (λ k. IsPageUsed file k now r.page) p.next r.is) r.front;
   next = step ∙ sym (ap (λ k. page_at at + k) longer);
   more = subst (λ k. k < pages_of at n) (sym longer) (omega (arith, count_of at n (omega (arith, less)), p.next, step_of, reach));
@@ -154,7 +154,7 @@ ends places file at n given m old now new p less which r = record {
   last = λ before page is. ap (λ l. slice_get l 0) r.front ∙ ap Some (last_is p.pages before r.page page is);
 }
   where
-    by_end : (m < room_at (at + given) (n - given)) ⊎ (given + m ≡ n) → (length p.pages + 1 ≡ pages_of at n) ⊎ ((is_full r.page ≡ false) × (length p.pages < pages_of at n))
+    by_end : (m < room_at (at + given) (n - given)) ⊎ (given + m ≡ n) → (length p.pages + 1 ≡ pages_of at n) ⊎ ((is_full_page r.page ≡ false) × (length p.pages < pages_of at n))
     by_end (inl short) = inr (unfilled r.page (at + given) (n - given) m r.many short, p.more)
     by_end (inr end) = inl (omega (arith, count_of at n (omega (arith, less)), p.next, same_page))
       where
@@ -222,7 +222,7 @@ without_keeps file a b (x ∷ held) other = pick (is_page file a x)
         and_false false = refl
 
 -- what was held is held once a held page has moved to the front
-held_stays : (places : ℕ) (file : File) (m k : ℕ) (now : List Page) (x q : Page) → length now ≤ places → page_in file m now ≡ Some x → page_in file k now ≡ Some q → page_in file k (used places x now) ≡ Some q
+held_stays : (places : ℕ) (file : File) (m k : ℕ) (now : List Page) (x q : Page) → length now ≤ places → page_in file m now ≡ Some x → page_in file k now ≡ Some q → page_in file k (pages_used places x now) ≡ Some q
 held_stays places file m k now x q few there e = of_name (named file m x is).0 (named file m x is).1
   where
     is : is_page file m x ≡ true
@@ -234,14 +234,14 @@ held_stays places file m k now x q few there e = of_name (named file m x is).0 (
         by_test : (b : Bool) → b ≡ false → b ≡ false
         by_test b e = e
 
-    of_name : x.file ≡ file → x.number ≡ m → page_in file k (used places x now) ≡ Some q
+    of_name : x.file ≡ file → x.number ≡ m → page_in file k (pages_used places x now) ≡ Some q
     of_name same number = pick (is_page file k x)
         (λ hit. ap (λ c. cond c (Some x) (page_in file k (take (places - 1) (without x.file x.number now)))) hit ∙ sym there ∙ ap (λ j. page_in file j now) (sym number ∙ (named file k x hit).1) ∙ e)
         (λ miss. ap (λ c. cond c (Some x) (page_in file k (take (places - 1) (without x.file x.number now)))) miss
         ∙ ap (page_in file k) (ap (λ f. take (places - 1) (without f x.number now)) same ∙ ap (λ j. take (places - 1) (without file j now)) number ∙ take_all (places - 1) (without file m now) (omega (arith, few, length_without file m now x there)))
         ∙ without_keeps file m k now (other same number miss) ∙ e)
 
-all_stay : (places : ℕ) (file : File) (m number : ℕ) (rest now : List Page) (x : Page) → length now ≤ places → page_in file m now ≡ Some x → AreHeld file number rest now → AreHeld file number rest (used places x now)
+all_stay : (places : ℕ) (file : File) (m number : ℕ) (rest now : List Page) (x : Page) → length now ≤ places → page_in file m now ≡ Some x → AreHeld file number rest now → AreHeld file number rest (pages_used places x now)
 all_stay places file m number [] now x few there held = tt
 all_stay places file m number (q ∷ rest) now x few there held = (held_stays places file m number now x q few there held.0, all_stay places file m (suc number) rest now x few there held.1)
 
@@ -262,7 +262,7 @@ pub record Next (file : File) (at n number : ℕ) (now : List Page) : Type 0 whe
   pub page : Page
   pub there : page_in file number now ≡ Some page
   pub rest : List Page
-  pub these : is_full page ≡ true → AreUpTo (pages_of at n + page_at at - suc number) rest
+  pub these : is_full_page page ≡ true → AreUpTo (pages_of at n + page_at at - suc number) rest
   pub held : AreHeld file (suc number) rest now
 
 pub next_of : (file : File) (at n number : ℕ) (now : List Page) → Left file at n number now → number < pages_of at n + page_at at → Next file at n number now
@@ -283,15 +283,15 @@ pub left_goes_on : (places : ℕ) (file : File) (at n given m : ℕ) (now new : 
     → ReadsPage places file (at + given) (room_at (at + given) (n - given)) m now new → Left file at n (page_at (at + (given + m))) new
 left_goes_on places file at n given m now new x few all left r = record {
   rest = x.rest;
-  these = subst (λ k. AreUpTo (pages_of at n + page_at at - k) x.rest) (sym step) (x.these (subst (λ p. is_full p ≡ true) (r.is.same x.page x.there) full));
+  these = subst (λ k. AreUpTo (pages_of at n + page_at at - k) x.rest) (sym step) (x.these (subst (λ p. is_full_page p ≡ true) (r.is.same x.page x.there) full));
   held = subst (λ k. AreHeld file k x.rest new) (sym step) (subst (AreHeld file (suc (page_at (at + given))) x.rest) (sym front) (all_stay places file (page_at (at + given)) (suc (page_at (at + given))) x.rest now x.page few x.there x.held));
 }
   where
-    full : is_full r.page ≡ true
+    full : is_full_page r.page ≡ true
     full = filled r.page (at + given) (n - given) m r.many all (omega (arith, all, left))
 
-    front : new ≡ used places x.page now
-    front = r.front ∙ ap (λ p. used places p now) (r.is.same x.page x.there)
+    front : new ≡ pages_used places x.page now
+    front = r.front ∙ ap (λ p. pages_used places p now) (r.is.same x.page x.there)
 
     step : page_at (at + (given + m)) ≡ suc (page_at (at + given))
     step = omega (arith, all, left)

@@ -24,8 +24,8 @@ abbrev pub is_page : File → ℕ → Page → Bool
 is_page file number page = same_file page.file file && (page.number == number)
 
 -- the page has all 4096 bytes, so its file doesn't end inside it
-abbrev pub is_full : Page → Bool
-is_full page = nat_le page_size (length page.bytes)
+abbrev pub is_full_page : Page → Bool
+is_full_page page = nat_le page_size (length page.bytes)
 
 -- the page has exactly the bytes that its file has in this range
 abbrev pub HoldsFileBytes : Image → Page → Type 0
@@ -45,8 +45,8 @@ without file number [] = []
 without file number (page ∷ held) = if is_page file number page then held else page ∷ without file number held
 
 -- the pages after an access to this one: it is the first now, and if the cache was full and hadn't it, the last one was evicted
-abbrev pub used : ℕ → Page → List Page → List Page
-used places page held = page ∷ take (places - 1) (without page.file page.number held)
+abbrev pub pages_used : ℕ → Page → List Page → List Page
+pages_used places page held = page ∷ take (places - 1) (without page.file page.number held)
 
 -- the pages after a failed read of a page: if the cache was full, its last page was evicted
 abbrev pub dropped : ℕ → List Page → List Page
@@ -60,13 +60,13 @@ pub record IsPageUsed (file : File) (number : ℕ) (held : List Page) (page : Pa
 -- the pages of a file were accessed one after another, by rising number from `number` on
 abbrev pub UsesEach : ℕ → File → ℕ → List Page → List Page → List Page → Type 0
 UsesEach places file number [] old new = new ≡ old
-UsesEach places file number (page ∷ pages) old new = IsPageUsed file number old page × UsesEach places file (suc number) pages (used places page old) new
+UsesEach places file number (page ∷ pages) old new = IsPageUsed file number old page × UsesEach places file (suc number) pages (pages_used places page old) new
 
 -- `pages` has so many elements, all full but perhaps the last; or fewer, if the last of them isn't full (its file ends there)
 abbrev pub AreUpTo : ℕ → List Page → Type 0
 AreUpTo zero pages = pages ≡ []
 AreUpTo (suc more) [] = ⊥
-AreUpTo (suc more) (page ∷ pages) = (is_full page ≡ true → AreUpTo more pages) × (is_full page ≡ false → pages ≡ [])
+AreUpTo (suc more) (page ∷ pages) = (is_full_page page ≡ true → AreUpTo more pages) × (is_full_page page ≡ false → pages ≡ [])
 
 -- the number of the page that has this offset
 abbrev pub page_at : ℕ → ℕ
@@ -87,7 +87,7 @@ pub record ReadsThrough (places : ℕ) (file : File) (place n : ℕ) (old new : 
 -- cache was full
 pub record FailsBehind (places : ℕ) (file : File) (place n : ℕ) (old new : List Page) : Type 0 where
   pub pages : List Page
-  pub full : All (λ page. is_full page ≡ true) pages
+  pub full : All (λ page. is_full_page page ≡ true) pages
   pub more : length pages < pages_of place n
   pub between : List Page
   pub uses : UsesEach places file (page_at place) pages old between
@@ -111,11 +111,11 @@ unless_of file page = if same_file page.file file then None else Some page
 
 -- a range that ends at `end` doesn't reach beyond the bytes of the page, as far as it lies in it
 abbrev pub reaches : ℕ → Page → Bool
-reaches end page = is_full page || nat_le end (start_of page + length page.bytes)
+reaches end page = is_full_page page || nat_le end (start_of page + length page.bytes)
 
 -- the page with `bytes`, which begin at `place` of its file, written over those that it has
-abbrev pub overwritten : ℕ → List ℕ → Page → Page
-overwritten place bytes page = record {
+abbrev pub page_overwritten : ℕ → List ℕ → Page → Page
+page_overwritten place bytes page = record {
   file = page.file;
   number = page.number;
   bytes = spliced (place - start_of page) (drop (start_of page - place) bytes) page.bytes;
@@ -123,9 +123,9 @@ overwritten place bytes page = record {
 
 -- the page after a write of bytes at `place` of this file; a page of another file is unchanged
 abbrev pub rewritten : File → ℕ → List ℕ → Page → Page
-rewritten file place bytes page = if same_file page.file file then overwritten place bytes page else page
+rewritten file place bytes page = if same_file page.file file then page_overwritten place bytes page else page
 
 -- the page after a write of bytes at `place` of this file, or None where it ends before the new bytes do (its file may have grown)
 abbrev pub written : File → ℕ → List ℕ → Page → Option Page
 written file place bytes page =
-    if same_file page.file file then (if reaches (place + length bytes) page then Some (overwritten place bytes page) else None) else Some page
+    if same_file page.file file then (if reaches (place + length bytes) page then Some (page_overwritten place bytes page) else None) else Some page

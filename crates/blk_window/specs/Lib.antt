@@ -2,4 +2,5 @@ pub mod Held
 pub mod Tags
 pub mod Slots
 pub mod Pages
+pub mod PageClauses
 pub mod Reading

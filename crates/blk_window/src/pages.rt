@@ -6,7 +6,7 @@ ghost use Rattle.std.specs.Map.{keys_of};
 ghost use Rattle.blk_io.specs.FileNames.{file_of};
 ghost use Rattle.std.proofs.Props.{props};
 ghost use Rattle.lru.specs.LruCache.{last_entry};
-ghost use Rattle.blk_window.specs.Held.{is_held, page_in, page_at, used, dropped, unless_of, written};
+ghost use Rattle.blk_window.specs.Held.{is_held, page_at, dropped, unless_of, written};
 ghost use Rattle.blk_window.specs.Slots.{AreTags, HoldsOnce};
 
 use crate::page::Page;
@@ -36,6 +36,7 @@ pub struct Pages {
 impl Pages {
     ghost use Rattle.blk_window.specs.Slots.{seen, shows, held_in, giving_way, Copies};
     ghost use Rattle.blk_window.specs.Pages.{held_of, places_of, IsSlotFree};
+    ghost use Rattle.blk_window.specs.PageClauses.{ForPageAt, UsesPage};
 
     /// So many slots, which hold nothing.
     pub fn new(alloc: Global, pages: u16) -> Result<Pages, AllocError>
@@ -120,8 +121,8 @@ impl Pages {
         requires { at % 4096 + length out.old ≤ 4096 }
         ensures within { IfSome result (λ n. n ≤ length out.old) }
         ensures exact { is_some result ≡ is_held (file_of file) (page_at at) (held_of self.old) }
-        ensures used { IfSome result (λ n. ForSome (page_in (file_of file) (page_at at) (held_of self.old)) (λ page. held_of self.new ≡ used (places_of self.old) page (held_of self.old))) }
-        ensures copies { IfSome result (λ n. ForSome (page_in (file_of file) (page_at at) (held_of self.old)) (λ page. Copies page (at % 4096) out.old out.new n)) }
+        ensures used { IfSome result (λ n. ForPageAt self.old file at (UsesPage self.old self.new)) }
+        ensures copies { IfSome result (λ n. ForPageAt self.old file at (λ page. Copies page (at % 4096) out.old out.new n)) }
         ensures places { places_of self.new ≡ places_of self.old }
         ensures none { IfNone result (held_of self.new ≡ held_of self.old) }
         ensures unfilled { IfNone result (out.new ≡ out.old) }

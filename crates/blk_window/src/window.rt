@@ -1,5 +1,5 @@
 // A window of pages over a folder.
-ghost use Rattle.std.specs.Prelude.{◌≡◌, ◌+◌, ◌-◌, ◌<◌, ◌≤◌, ◌%◌, ◌^◌, true, false, [], ◌∷◌, length, map, Some, IfOk, IfErr, OnOk, OnErr, IsOk, IsTrue};
+ghost use Rattle.std.specs.Prelude.{◌≡◌, ◌+◌, ◌-◌, ◌<◌, ◌≤◌, ◌%◌, ◌^◌, true, false, [], ◌∷◌, length, Some, IfOk, IfErr, OnOk, OnErr, IsOk, IsTrue};
 ghost use Rattle.std.specs.Option.{ForSome, option_map};
 ghost use Rattle.std.specs.List.{All, filter_map};
 ghost use Rattle.spec_image.specs.Image.{HasRange};
@@ -8,9 +8,10 @@ ghost use Rattle.spec_image.specs.Order.{IsNextFile, IsAfter};
 ghost use Rattle.spec_image.specs.Told.{Applies, Stays, AppliesPrefix, Rises, GivesBytes};
 ghost use Rattle.blk_io.specs.FileNames.{file_of};
 ghost use Rattle.blk_io.specs.Untold.{untold};
-ghost use Rattle.blk_window.specs.Held.{HoldsFileBytes, is_held, page_at, dropped, unless_of, written, rewritten, ReadsThrough, FailsBehind, HoldsRange};
+ghost use Rattle.blk_io.specs.Faults.{OkFor};
+ghost use Rattle.blk_window.specs.Held.{HoldsFileBytes, is_held, page_at, dropped, unless_of, written};
 ghost use Rattle.blk_window.specs.Pages.{held_of, places_of};
-ghost use Rattle.blk_window.specs.Reading.{ReadsPage};
+ghost use Rattle.blk_window.specs.PageClauses.{EndsInside, ReadsOnePage, ReadsInPages, FailsInPages, AreRewritten, HoldsPages};
 
 use crate::page::Page;
 use crate::pages::Pages;
@@ -88,7 +89,7 @@ impl<F: Folder> Window<F> {
         ensures later { F.faults self.old.inner ≤ F.faults self.new.inner }
         ensures failed { OnErr result (Rises (F.faults self.old.inner) (F.faults self.new.inner)) }
         ensures places { places_of self.new.pages ≡ places_of self.old.pages }
-        ensures used { IfOk result (λ n. ReadsPage (places_of self.old.pages) (file_of file) at (length out.old) n (held_of self.old.pages) (held_of self.new.pages)) }
+        ensures used { IfOk result (ReadsOnePage self.old.pages self.new.pages file at (length out.old)) }
         ensures missing { OnErr result (is_held (file_of file) (page_at at) (held_of self.old.pages) ≡ false) }
         ensures dropped { OnErr result (held_of self.new.pages ≡ dropped (places_of self.old.pages) (held_of self.old.pages)) }
         ensures held { is_held (file_of file) (page_at at) (held_of self.old.pages) ≡ true → IsOk result × (self.new.inner ≡ self.old.inner) }
@@ -113,9 +114,9 @@ impl<F: Folder> Window<F> {
         ensures later { F.faults self.old.inner ≤ F.faults self.new.inner }
         ensures failed { OnErr result (Rises (F.faults self.old.inner) (F.faults self.new.inner)) }
         ensures places { places_of self.new.pages ≡ places_of self.old.pages }
-        ensures reads { OnOk result (ReadsThrough (places_of self.old.pages) (file_of file) at (length out.old) (held_of self.old.pages) (held_of self.new.pages)) }
-        ensures fails { OnErr result (FailsBehind (places_of self.old.pages) (file_of file) at (length out.old) (held_of self.old.pages) (held_of self.new.pages)) }
-        ensures held { HoldsRange (file_of file) at (length out.old) (held_of self.old.pages) → IsOk result × (self.new.inner ≡ self.old.inner) }
+        ensures reads { OnOk result (ReadsInPages self.old.pages self.new.pages file at (length out.old)) }
+        ensures fails { OnErr result (FailsInPages self.old.pages self.new.pages file at (length out.old)) }
+        ensures held { HoldsPages self.old.pages file at (length out.old) → IsOk result × (self.new.inner ≡ self.old.inner) }
     {
         let mut given = 0;
         while given < out.len() {
@@ -166,11 +167,11 @@ impl<F: Folder> Folder for Window<F> {
         ensures places { places_of self.new.pages ≡ places_of self.old.pages }
 
         // Which pages are held then, and in which order.
-        ensures reads { at + length out.old ≤ 2 ^ 64 → OnOk result (ReadsThrough (places_of self.old.pages) (file_of file) at (length out.old) (held_of self.old.pages) (held_of self.new.pages)) }
-        ensures fails { at + length out.old ≤ 2 ^ 64 → OnErr result (FailsBehind (places_of self.old.pages) (file_of file) at (length out.old) (held_of self.old.pages) (held_of self.new.pages)) }
+        ensures reads { EndsInside at (length out.old) → OnOk result (ReadsInPages self.old.pages self.new.pages file at (length out.old)) }
+        ensures fails { EndsInside at (length out.old) → OnErr result (FailsInPages self.old.pages self.new.pages file at (length out.old)) }
 
         // No call is made on the folder inside where all pages are held.
-        ensures held { at + length out.old ≤ 2 ^ 64 → HoldsRange (file_of file) at (length out.old) (held_of self.old.pages) → IsOk result × (self.new.inner ≡ self.old.inner) }
+        ensures held { EndsInside at (length out.old) → HoldsPages self.old.pages file at (length out.old) → IsOk result × (self.new.inner ≡ self.old.inner) }
 
         // No call names a place from 2 ^ 64 on. A range that goes beyond is read inside, past the pages.
         ensures past { 2 ^ 64 < at + length out.old → self.new.pages ≡ self.old.pages }
@@ -192,7 +193,7 @@ impl<F: Folder> Folder for Window<F> {
         ensures dropped { OnErr result (held_of self.new.pages ≡ filter_map (unless_of (file_of file)) (held_of self.old.pages)) }
 
         // In an observable folder no page is dropped by a write that was made.
-        ensures kept { OnOk result (ForSome (F.told self.old.inner).files (λ image. held_of self.new.pages ≡ map (rewritten (file_of file) at bytes.now) (held_of self.old.pages))) }
+        ensures kept { OnOk result (ForSome (F.told self.old.inner).files (λ _. AreRewritten file at bytes.now self.old.pages self.new.pages)) }
     {
         match self.inner.write_at(file, at, bytes) {
             Ok(()) => {
@@ -232,7 +233,7 @@ impl<F: Folder> Folder for Window<F> {
 
     fn list(&mut self, after: Option<FileId>) -> Result<Option<FileId>, Failed>
         ensures after { IfOk result (λ next. ForSome next (λ file. IsAfter (option_map file_of after) (file_of file))) }
-        ensures next { IfOk result (λ next. ForSome (F.told self.old.inner).files (λ image. IsNextFile image (option_map file_of after) (option_map file_of next))) }
+        ensures next { OkFor result (F.told self.old.inner) (λ next image. IsNextFile image (option_map file_of after) (option_map file_of next)) }
         ensures stays { Stays (F.told self.old.inner) (F.told self.new.inner) }
         ensures later { F.faults self.old.inner ≤ F.faults self.new.inner }
         ensures failed { OnErr result (Rises (F.faults self.old.inner) (F.faults self.new.inner)) }

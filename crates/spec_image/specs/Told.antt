@@ -43,6 +43,10 @@ pub record AppliesPrefix (old new : Told) (steps : List TrailStep) : Type 0 wher
   pub split : steps ≡ made ++ left
   pub applies : Applies old new made
 
+-- exactly the steps that a function gives for the image were made, where the image is observable
+abbrev pub MakesSteps : (old new : Told) → (steps_on : Image → List TrailStep) → Type 0
+MakesSteps old new steps_on = ForSome old.files (λ from. Applies old new (steps_on from))
+
 -- a prefix of the steps that a function gives for the image was made, where the image is observable; an opaque image stays opaque
 pub record MakesPartOf (old new : Told) (steps_on : Image → List TrailStep) : Type 0 where
   pub made : ForSome old.files (λ from. AppliesPrefix old new (steps_on from))

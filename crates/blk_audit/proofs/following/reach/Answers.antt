@@ -5,7 +5,7 @@ use Rattle.spec_format.specs.Address.{blocks_256}
 use Rattle.spec_folder.specs.Chains.{file_and_block, is_of_bucket}
 use Rattle.spec_folder.specs.View.{stands_as, store_of}
 use Rattle.blk_disk.specs.Tables.{is_record_among}
-use Rattle.blk_audit.specs.Chaining.{is_met, words_reached}
+use Rattle.blk_audit.specs.Chaining.{is_block_met, words_reached}
 use Rattle.blk_audit.specs.Records.{IsSaidBy}
 use Rattle.blk_audit.proofs.Carrying.{converted}
 use Rattle.blk_audit.proofs.Chained.{reach_stops, reach_on, not_reached, not_new, reached_new}
@@ -25,7 +25,7 @@ returns-in_default-clause-step g c image there agrees =
 pub returns-then-has-clause-step : goal.returns-then-has-clause-step
 returns-then-has-clause-step g c image there agrees =
     let named : c.in-Some.addr ≡ c.args.word = value_by (is_record_among c.args.files.now c.args.word) c.args.word c.in-Some.addr (sym c.in-Some.is ∙ c.entry.ensures.entry) in
-    let met : is_met c.args.reached.now.words.items c.args.word ≡ true = sym (ap (is_met c.args.reached.now.words.items) named) ∙ sym c.has.ensures ∙ c.if-has.true in
+    let met : is_block_met c.args.reached.now.words.items c.args.word ≡ true = sym (ap (is_block_met c.args.reached.now.words.items) named) ∙ sym c.has.ensures ∙ c.if-has.true in
     reach_stops (store_of image) c.args.bucket c.args.reached.now.words.items c.args.word
     (not_new (store_of image) c.args.bucket (map file_and_block c.args.reached.now.words.items) c.args.word met)
 
@@ -61,7 +61,7 @@ returns-clause-step g c image there agrees =
     let stand : stands_as image blocks_256 c.args.word ≡ true =
     sym (names_stand c.args.files.now image c.args.word agrees) ∙ test_by (is_record_among c.args.files.now c.args.word) c.args.word c.in-Some.addr (sym c.in-Some.is ∙ c.entry.ensures.entry) in
     let is : IsSaidBy image c.args.word c.in_ok-said.said = subst (λ (w : ℕ). IsSaidBy image w c.in_ok-said.said) named (c.in_ok-said.ensures.said image there (c.requires.records image there)) in
-    let fresh : is_met c.args.reached.now.words.items c.args.word ≡ false = sym (ap (is_met c.args.reached.now.words.items) named) ∙ sym c.has.ensures ∙ c.if-has.false in
+    let fresh : is_block_met c.args.reached.now.words.items c.args.word ≡ false = sym (ap (is_block_met c.args.reached.now.words.items) named) ∙ sym c.has.ensures ∙ c.if-has.false in
     let good : c.in_ok-said.said.words.checks ≡ true = false_not c.in_ok-said.said.words.checks (sym c.if-not-said.false) in
     let of : is_of_bucket (store_of image) c.args.bucket c.args.word ≡ true =
     of_is image c.args.bucket c.args.word c.in_ok-said.said stand is
@@ -80,7 +80,7 @@ returns-in_default-clause-checked g c image there =
 pub returns-then-has-clause-checked : goal.returns-then-has-clause-checked
 returns-then-has-clause-checked g c image there =
     let named : c.in-Some.addr ≡ c.args.word = value_by (is_record_among c.args.files.now c.args.word) c.args.word c.in-Some.addr (sym c.in-Some.is ∙ c.entry.ensures.entry) in
-    let met : is_met c.args.reached.now.words.items c.args.word ≡ true = sym (ap (is_met c.args.reached.now.words.items) named) ∙ sym c.has.ensures ∙ c.if-has.true in
+    let met : is_block_met c.args.reached.now.words.items c.args.word ≡ true = sym (ap (is_block_met c.args.reached.now.words.items) named) ∙ sym c.has.ensures ∙ c.if-has.true in
     met_there c.args.files.now image c.args.reached.now.words.items c.args.word (c.requires.there image there) met
 
 pub returns-then-not-said-clause-checked : goal.returns-then-not-said-clause-checked

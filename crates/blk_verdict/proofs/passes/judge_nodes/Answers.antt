@@ -21,7 +21,7 @@ pub returns-in_err-try_pass-2-clause-untold : goal.returns-in_err-try_pass-2-cla
 returns-in_err-try_pass-2-clause-untold g c agrees are =
     carried c.try_pass-2.result c.from_residual-in_err-try_pass-2.result c.in_err-try_pass-2.field-0.0 _ c.in_err-try_pass-2.was c.from_residual-in_err-try_pass-2.ensures.1
     (weaker c.try_pass-2.result _ _ (λ damage none. ap (λ (t : Told). t.files) (sym c.in_ok-try_pass.ensures.reads.stays) ∙ none)
-    (c.try_pass-2.ensures.untold (told_stays (CanBeTried c.args.files.now c.args.lists.now c.try_pass.new.kept.kept.items) c.in_ok-try_pass.ensures.reads.stays
+    (c.try_pass-2.ensures.untold (told_stays (CanBeTried c.args.files.now c.args.lists.now c.try_pass.new.judged.kept.kept.items) c.in_ok-try_pass.ensures.reads.stays
     (λ image there. record {
       agrees = agrees image there;
       are = are image there;
@@ -34,8 +34,8 @@ returns-clause-judged g c image there agrees are =
     let nodes : List ℕ = nodes_walked c.args.lists.now.walked in
     let first = c.in_ok-try_pass.ensures.tried image there agrees are [] (none_tried image nodes c.none-kept.result.kept.items c.new-tried.result.items c.none-kept.ensures.none c.new-tried.ensures.items) in
     let second = c.in_ok-try_pass-2.ensures.tried image (told_now image c.in_ok-try_pass.ensures.reads.stays there) agrees are (of_pass (store_of image) false nodes) first in
-    subst (λ (ns : List ℕ). AreTried image ns (audit.tried (store_of image) ns) c.try_pass-2.new.kept.kept.items c.try_pass-2.new.tried.items) are.walked second
+    subst (λ (ns : List ℕ). AreTried image ns (audit.tried (store_of image) ns) c.try_pass-2.new.judged.kept.kept.items c.try_pass-2.new.judged.tried.items) are.walked second
 
 pub returns-clause-answered : goal.returns-clause-answered
 returns-clause-answered g c image there agrees are node among =
-    walked_answered image c.try_pass-2.new.kept.kept.items c.try_pass-2.new.tried.items node (returns-clause-judged g c image there agrees are) among
+    walked_answered image c.try_pass-2.new.judged.kept.kept.items c.try_pass-2.new.judged.tried.items node (returns-clause-judged g c image there agrees are) among

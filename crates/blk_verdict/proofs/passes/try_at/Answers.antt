@@ -23,13 +23,13 @@ returns-in_err-child-clause-short g c =
 
 pub returns-in_err-child-clause-untold : goal.returns-in_err-child-clause-untold
 returns-in_err-child-clause-untold g c =
-    untold_converted c.is_child.result c.from_residual.result c.in_err-child.field-0.0 {a = g.F.Folder.told c.args.folder.now} (CanBeTried c.args.files.now c.args.lists.now c.args.kept.now.kept.items) (Agrees c.args.files.now)
+    untold_converted c.is_child.result c.from_residual.result c.in_err-child.field-0.0 {a = g.F.Folder.told c.args.folder.now} (CanBeTried c.args.files.now c.args.lists.now c.args.judged.now.kept.kept.items) (Agrees c.args.files.now)
     (λ image can. can.agrees) c.is_child.ensures.reads.stays c.is_child.ensures.untold c.in_err-child.was c.from_residual.ensures.1
 
 pub returns-in_err-reason-clause-untold : goal.returns-in_err-reason-clause-untold
 returns-in_err-reason-clause-untold g c =
     untold_on c.judge_walked.result c.from_residual-in_err-reason.result c.in_err-reason.field-0.0 {a = g.F.Folder.told c.args.folder.now}
-    (CanBeTried c.args.files.now c.args.lists.now c.args.kept.now.kept.items) (CanBeTried c.args.files.now c.args.lists.now c.args.kept.now.kept.items)
+    (CanBeTried c.args.files.now c.args.lists.now c.args.judged.now.kept.kept.items) (CanBeTried c.args.files.now c.args.lists.now c.args.judged.now.kept.kept.items)
     (λ image can. can) c.in_ok-child.ensures.reads.stays
     (λ can. c.judge_walked.ensures.untold (λ image there. (can image there).agrees)
     (λ image there.
@@ -49,9 +49,9 @@ returns-in_ok-push-clause-tried g c image there agrees are before w at so_far =
     ap (is_of_pass c.args.children) (sym (c.in_ok-child.ensures.child image there agrees are said.fields)) ∙ sym c.is_of_pass.ensures ∙ c.if-is_of_pass.true in
     let now = told_now image c.in_ok-child.ensures.reads.stays there in
     let one : Tried = record { place = c.args.i; reason = c.in_ok-reason.reason } in
-    subst (λ (n : ℕ). AreTried image nodes (before ++ of_pass (store_of image) c.args.children (n ∷ [])) c.judge_walked.new.kept.kept.items c.push.new.tried.items) same
-    (subst (λ (ns : List ℕ). AreTried image nodes ns c.judge_walked.new.kept.kept.items c.push.new.tried.items) (sym (passes (store_of image) c.args.children before c.in-Some.here.addr test))
-    (subst (λ (ts : List Tried). AreTried image nodes (before ++ c.in-Some.here.addr ∷ []) c.judge_walked.new.kept.kept.items ts) (sym c.in_ok-push.ensures)
-    (tried_more image nodes before c.args.kept.now.kept.items c.args.tried.now.items c.in-Some.here.addr c.judge_walked.new.kept.kept.items one so_far said.addr
+    subst (λ (n : ℕ). AreTried image nodes (before ++ of_pass (store_of image) c.args.children (n ∷ [])) c.judge_walked.new.judged.kept.kept.items c.push.new.judged.tried.items) same
+    (subst (λ (ns : List ℕ). AreTried image nodes ns c.judge_walked.new.judged.kept.kept.items c.push.new.judged.tried.items) (sym (passes (store_of image) c.args.children before c.in-Some.here.addr test))
+    (subst (λ (ts : List Tried). AreTried image nodes (before ++ c.in-Some.here.addr ∷ []) c.judge_walked.new.judged.kept.kept.items ts) (sym c.in_ok-push.ensures)
+    (tried_more image nodes before c.args.judged.now.kept.kept.items c.args.judged.now.tried.items c.in-Some.here.addr c.judge_walked.new.judged.kept.kept.items one so_far said.addr
     (c.in_ok-reason.ensures.answer image now agrees are said.fields (kept_after (store_of image) held_rule [] before) so_far.shown)
     (c.in_ok-reason.ensures.shown image now agrees are said.fields (kept_after (store_of image) held_rule [] before) so_far.shown))))
