@@ -12,7 +12,8 @@ ghost use Rattle.blk_disk.specs.Tables.{Agrees, stands_among};
 ghost use Rattle.spec_format.specs.Sealed.{RecordChecks};
 ghost use Rattle.spec_folder.specs.View.{entry_at};
 ghost use Rattle.blk_entry.specs.Keys as keys;
-ghost use Rattle.blk_entry.specs.Keys.{CanBeRead, HasKeyBytes, HasKeyPlace, HasRecord, IsRecordHead, IsHeadDamage, IsInside, IsMisplacedKey, IsPiece, IsPlaceOfKey, is_short, key_at, key_bytes};
+ghost use Rattle.blk_entry.specs.EntryClauses.{UndamagedWhereBoth};
+ghost use Rattle.blk_entry.specs.Keys.{CanBeRead, HasKeyBytes, HasKeyPlace, HasRecord, IsRecordHead, IsHeadDamage, IsInside, IsMisplacedKey, IsPiece, IsPlaceOfKey, key_at, key_bytes};
 
 use crate::data::{is_of, read_data};
 use blk_addr::{Addr, Kind, LONGEST_SHORT_KEY, RECORD_BLOCK, blocks_for, entry_blocks, kind_for};
