@@ -10,7 +10,7 @@ use Rattle.blk_io.specs.declared.folder.FileId.TheVariants as names
 use Rattle.blk_io.specs.declared.fault.Damage.{Damage}
 use Rattle.blk_io.specs.declared.fault.Fault.{Fault}
 use Rattle.blk_io.specs.declared.fault.Fault.TheVariants.{Device, Damaged}
-use Rattle.blk_io.specs.Faults.{damage_of, IsShort}
+use Rattle.blk_io.specs.Faults.{damage_of, IsShort, IsShortAtStart}
 use Rattle.blk_index.specs.declared.start.Start.{Start}
 use Rattle.blk_index.specs.declared.start.Start.TheVariants.{Unfinished, Finished}
 
@@ -36,13 +36,21 @@ abbrev pub AnswersIndexHeader : Option checks.Damage → ℕ → ℕ → Result 
 AnswersIndexHeader None size given answer = IsGiven size given → answer ≡ Ok Finished
 AnswersIndexHeader (Some damage) size given answer = IsGiven size given → (found : Damage) × (answer ≡ Err (Damaged found)) × (damage_of found ≡ damage)
 
+-- the first check that fails for a header with these bytes and an index of this length, or None
+abbrev pub first_head_damage : (header : List ℕ) → (size : ℕ) → Option checks.Damage
+first_head_damage header size = first_of (head_checks (content header) size ++ list_checks (content header))
+
+-- a header, of which so many bytes were given, can't be used: these are too few, or the error is the first check that fails
+abbrev pub IsIndexFault : (header : List ℕ) → (size given : ℕ) → Damage → Type 0
+IsIndexFault header size given damage = IsShortAtStart Index header_length given damage ⊎ (first_head_damage header size ≡ Some (damage_of damage))
+
 -- the header and the length of an initialized index were read, and the error is the first check of them that fails
 pub record FailsIndexCheck (damage : Damage) : Type 0 where
   pub header : List ℕ
   pub size : ℕ
   pub read : length header ≡ header_length
   pub finished : magic_of (content header) ≢ 0
-  pub first : first_of (head_checks (content header) size ++ list_checks (content header)) ≡ Some (damage_of damage)
+  pub first : first_head_damage header size ≡ Some (damage_of damage)
 
 -- why the look at the index fails, of an opaque folder too: too few bytes of the header came, or a check of what was read fails
 abbrev pub IsLookDamage : Told → Damage → Type 0

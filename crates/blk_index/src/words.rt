@@ -1,5 +1,5 @@
 // The words of the index's header, and the words of its table.
-ghost use Rattle.std.specs.Prelude.{◌≡◌, ◌⊎◌, ◌+◌, ◌*◌, ◌%◌, ◌<◌, ◌≤◌, IfOk, None, OnErr, OnOk, length};
+ghost use Rattle.std.specs.Prelude.{◌≡◌, ◌+◌, ◌*◌, ◌%◌, ◌<◌, ◌≤◌, IfOk, None, OnErr, OnOk, length};
 ghost use Rattle.std.specs.Option.{ForSome};
 ghost use Rattle.spec_image.specs.Bytes.{long_at};
 ghost use Rattle.spec_image.specs.Footprint.{SameOutside, one_word};
@@ -8,7 +8,7 @@ ghost use Rattle.spec_image.specs.Steps.{word_step};
 ghost use Rattle.spec_image.specs.Told.{Applies, AppliesPrefix, Passes, PassesAny, Rises, ReadsOnly};
 ghost use Rattle.spec_format.specs.Headers.{HasWholeIndex, bucket_of, place_of_bucket, header_length, table_length};
 ghost use Rattle.blk_io.specs.Faults.{IfDamaged, IfDevice, IsShort};
-ghost use Rattle.blk_index.specs.Table.{AreBuckets, buckets_of_piece};
+ghost use Rattle.blk_index.specs.Table.{AreBuckets, buckets_of_piece, HasBucketWords};
 
 use blk_io::{Failed, Fault, FileId, Folder, read_exact, read_word, write_word};
 use blk_record::IndexHead;
@@ -79,7 +79,7 @@ pub fn buckets<F: Folder>(folder: &mut F, first: u16, out: &mut [u32]) -> Result
     requires few { length out.old ≤ buckets_of_piece }
     requires inside { first + length out.old ≤ table_length }
     ensures words { OnOk result (ForSome (F.told folder.old).files (λ image. AreBuckets image first out.new)) }
-    ensures checked { OnOk result (ForSome (F.told folder.old).files (λ image. HasRange image index (place_of_bucket first) (4 * length out.old) ⊎ (length out.old ≡ 0))) }
+    ensures checked { OnOk result (ForSome (F.told folder.old).files (HasBucketWords first (length out.old))) }
     ensures reads { ReadsOnly F.told F.faults folder.old folder.new (IfDevice result) }
 
     // Too few bytes, which an observable folder gives only where the index is too short.
@@ -102,7 +102,7 @@ fn read_piece<F: Folder>(
     requires inside { first + length out.old ≤ table_length }
     requires size { length bytes.old ≡ 4 * length out.old }
     ensures words { OnOk result (ForSome (F.told folder.old).files (λ image. AreBuckets image first out.new)) }
-    ensures checked { OnOk result (ForSome (F.told folder.old).files (λ image. HasRange image index (place_of_bucket first) (4 * length out.old) ⊎ (length out.old ≡ 0))) }
+    ensures checked { OnOk result (ForSome (F.told folder.old).files (HasBucketWords first (length out.old))) }
     ensures reads { ReadsOnly F.told F.faults folder.old folder.new (IfDevice result) }
     ensures short { IfDamaged result (IsShort (F.told folder.old) FileId.Index (place_of_bucket first) (4 * length out.old)) }
     ensures untold { ForSome (F.told folder.old).files HasWholeIndex → IfDamaged result (λ _. (F.told folder.old).files ≡ None) }
