@@ -1,21 +1,20 @@
 // Addresses whose blocks and files become used together, or not at all.
-ghost use Rattle.std.specs.Prelude.{◌≡◌, ℕ, ◌≤◌, ◌++◌, ◌||◌, List, [], true, false, not, vec_len, IfOk, OnOk, OnErr, if◌then◌else◌};
+ghost use Rattle.std.specs.Prelude.{◌≡◌, ℕ, ◌≤◌, ◌++◌, List, [], true, false, vec_len, IfOk, OnOk, OnErr, if◌then◌else◌};
 ghost use Rattle.std.specs.List.{list_any};
-ghost use Rattle.spec_format.specs.Claims.{claims_of_all, overlap, repeats};
 
 use crate::meeting::any_meet;
 use crate::no_memory::NoMemory;
 use crate::{Addr, Claims};
 
 impl Claims {
-    ghost use Rattle.blk_addr.specs.ClaimGroups.{AddsAll, are_free};
+    ghost use Rattle.blk_addr.specs.ClaimGroups.{AddsAll, are_free, are_apart_from};
     ghost use Rattle.blk_addr.specs.Claims.{IsClaimsOf, IsUnchanged, is_added, is_claimed};
 
     /// Whether these addresses may be added: none uses a block or an external number that is used already, and no two of them use the same one. Each two of
     /// them are compared.
     pub fn are_free(&self, addrs: &[Addr]) -> bool
         ensures test { result ≡ are_free self.now addrs.now }
-        ensures listed { (words : List ℕ) → IsClaimsOf self.now words → result ≡ not (repeats (claims_of_all addrs.now) || overlap (claims_of_all words) (claims_of_all addrs.now)) }
+        ensures listed { (words : List ℕ) → IsClaimsOf self.now words → result ≡ are_apart_from words addrs.now }
     {
         !any_meet(addrs) && !self.has_any(addrs)
     }
