@@ -5,7 +5,7 @@ use Rattle.std.proofs.lemmas.List.{take_all, take_at, length-take-le}
 use Rattle.spec_image.specs.Image.{File}
 use Rattle.spec_image.specs.Steps.{TrailStep, Word, SetLength, Delete, Note, before_words, words}
 use Rattle.spec_image.proofs.Cuts.{words-split}
-use Rattle.blk_io.specs.Trail.{prefix_in, words_in}
+use Rattle.blk_io.specs.Trail.{prefix_in, words_touched}
 
 -- the first of the steps is a write
 abbrev IsWordFirst : List TrailStep → Type 0
@@ -54,29 +54,29 @@ not_zero : (n : ℕ) → (suc n == 0) ≡ false
 not_zero n = grind (arith, nat_tests)
 
 -- the words of some bytes
-pub words_in-some : (at n : ℕ) → words_in at (suc n) ≡ (at % 4 + suc n + 3) / 4
-words_in-some at n = ap (λ (t : Bool). if t then 0 else (at % 4 + suc n + 3) / 4) (not_zero n)
+pub words_touched-some : (at n : ℕ) → words_touched at (suc n) ≡ (at % 4 + suc n + 3) / 4
+words_touched-some at n = ap (λ (t : Bool). if t then 0 else (at % 4 + suc n + 3) / 4) (not_zero n)
 
 -- the length of the prefix that has some words
 prefix_in-some : (at n w : ℕ) → prefix_in at n (suc w) ≡ min n (4 * (at / 4 + suc w) - at)
 prefix_in-some at n w = ap (λ (t : Bool). if t then 0 else min n (4 * (at / 4 + suc w) - at)) (not_zero w)
 
 -- the number of the words of a write
-pub length-words : (f : File) (at : ℕ) (bs : List ℕ) → length (words f at bs) ≡ words_in at (length bs)
+pub length-words : (f : File) (at : ℕ) (bs : List ℕ) → length (words f at bs) ≡ words_touched at (length bs)
 unfolding words before_words
 length-words f at [] = refl
 length-words f at (b ∷ []) = one_word at
 length-words f at (b ∷ (c ∷ bs)) =
     length-before f at b (words f (at + 1) (c ∷ bs)) (words_first f (at + 1) c bs) ∙ by_test ((at + 1) % 4 == 0) refl (length-words f (at + 1) (c ∷ bs))
   where
-    by_test : (t : Bool) → ((at + 1) % 4 == 0) ≡ t → length (words f (at + 1) (c ∷ bs)) ≡ words_in (at + 1) (length (c ∷ bs))
-        → (if t then suc (length (words f (at + 1) (c ∷ bs))) else length (words f (at + 1) (c ∷ bs))) ≡ words_in at (length (b ∷ (c ∷ bs)))
+    by_test : (t : Bool) → ((at + 1) % 4 == 0) ≡ t → length (words f (at + 1) (c ∷ bs)) ≡ words_touched (at + 1) (length (c ∷ bs))
+        → (if t then suc (length (words f (at + 1) (c ∷ bs))) else length (words f (at + 1) (c ∷ bs))) ≡ words_touched at (length (b ∷ (c ∷ bs)))
     by_test true e deeper =
         let edge : (at + 1) % 4 ≡ 0 = grind (arith, nat_tests) in
-        ap suc (deeper ∙ words_in-some (at + 1) (length bs)) ∙ at_edge at (length bs) edge ∙ sym (words_in-some at (suc (length bs)))
+        ap suc (deeper ∙ words_touched-some (at + 1) (length bs)) ∙ at_edge at (length bs) edge ∙ sym (words_touched-some at (suc (length bs)))
     by_test false e deeper =
         let inner : (at + 1) % 4 ≡ 0 → ⊥ = λ z. grind (arith, nat_tests) in
-        deeper ∙ words_in-some (at + 1) (length bs) ∙ inside_word at (length bs) inner ∙ sym (words_in-some at (suc (length bs)))
+        deeper ∙ words_touched-some (at + 1) (length bs) ∙ inside_word at (length bs) inner ∙ sym (words_touched-some at (suc (length bs)))
 
 -- the places where words end
 abbrev end_of : ℕ → ℕ → ℕ
@@ -85,22 +85,22 @@ end_of at w = 4 * (at / 4 + w) - at
 none_few : (n : ℕ) → 0 ≤ n
 none_few n = omega arith
 
-few_words : (at n w : ℕ) → n ≤ end_of at (suc w) → words_in at n ≤ suc w
+few_words : (at n w : ℕ) → n ≤ end_of at (suc w) → words_touched at n ≤ suc w
 few_words at zero w short = none_few (suc w)
-few_words at (suc n) w short = subst (λ (m : ℕ). m ≤ suc w) (sym (words_in-some at n)) (few at n (suc w) short)
+few_words at (suc n) w short = subst (λ (m : ℕ). m ≤ suc w) (sym (words_touched-some at n)) (few at n (suc w) short)
   where
     few : (at n w : ℕ) → suc n ≤ 4 * (at / 4 + w) - at → (at % 4 + suc n + 3) / 4 ≤ w
     few at n w short = omega arith
 
-whole_words : (at w : ℕ) → words_in at (end_of at (suc w)) ≡ suc w
+whole_words : (at w : ℕ) → words_touched at (end_of at (suc w)) ≡ suc w
 whole_words at w = by_end (end_of at (suc w)) refl
   where
     full : (at n w : ℕ) → n ≡ 4 * (at / 4 + suc w) - at → (at % 4 + n + 3) / 4 ≡ suc w
     full at n w e = omega arith
 
-    by_end : (n : ℕ) → n ≡ end_of at (suc w) → words_in at n ≡ suc w
+    by_end : (n : ℕ) → n ≡ end_of at (suc w) → words_touched at n ≡ suc w
     by_end zero e = absurd (omega arith)
-    by_end (suc n) e = words_in-some at n ∙ full at (suc n) w e
+    by_end (suc n) e = words_touched-some at n ∙ full at (suc n) w e
 
 -- the prefix of a write that has its first words has these words
 pub take-words : (f : File) (at w : ℕ) (bs : List ℕ) → words f at (take (prefix_in at (length bs) w) bs) ≡ take w (words f at bs)
@@ -119,15 +119,15 @@ take-words f at (suc w) bs = ap (λ (m : ℕ). words f at (take m bs)) (prefix_i
         let front : min (length bs) (end_of at (suc w)) ≡ end_of at (suc w) = omega arith in
         let edge : (at + end_of at (suc w)) % 4 ≡ 0 = omega arith in
         let fits : end_of at (suc w) ≤ length bs = omega arith in
-        let count : length (words f at (take (end_of at (suc w)) bs)) ≡ suc w = length-words f at (take (end_of at (suc w)) bs) ∙ ap (words_in at) (length-take-le (end_of at (suc w)) bs fits) ∙ whole_words at w in
+        let count : length (words f at (take (end_of at (suc w)) bs)) ≡ suc w = length-words f at (take (end_of at (suc w)) bs) ∙ ap (words_touched at) (length-take-le (end_of at (suc w)) bs fits) ∙ whole_words at w in
         ap (λ (m : ℕ). words f at (take m bs)) front
         ∙ sym (take_at (words f at (take (end_of at (suc w)) bs)) (words f (at + end_of at (suc w)) (drop (end_of at (suc w)) bs)) (suc w) count)
         ∙ ap (take (suc w)) (sym (words-split f at (end_of at (suc w)) bs fits edge))
 
 -- the number of words in its other form
-pub count_is : (at n : ℕ) → 0 < n → n / 4 + (at % 4 + n % 4 + 3) / 4 ≡ words_in at n
+pub count_is : (at n : ℕ) → 0 < n → n / 4 + (at % 4 + n % 4 + 3) / 4 ≡ words_touched at n
 count_is at zero some = absurd (omega arith)
-count_is at (suc n) some = sums at (suc n) ∙ sym (words_in-some at n)
+count_is at (suc n) some = sums at (suc n) ∙ sym (words_touched-some at n)
   where
     sums : (at n : ℕ) → n / 4 + (at % 4 + n % 4 + 3) / 4 ≡ (at % 4 + n + 3) / 4
     sums at n = omega arith

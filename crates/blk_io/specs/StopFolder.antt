@@ -1,8 +1,9 @@
 -- What contracts see of a folder that crashes after so many steps: what they see of the folder inside it.
-use Rattle.std.specs.Prelude.{◌≡◌, ℕ, ◌<◌, ◌+◌, Bool, true}
+use Rattle.std.specs.Prelude.{◌≡◌, ℕ, ◌<◌, ◌+◌, List, length, take, nat_lt, Bool, ◌||◌, true}
 use Rattle.blk_io.specs.declared.stop.StopFolder.{StopFolder}
-use Rattle.spec_image.specs.Told.{Told, AgreesWithTrail, TellsBytes}
-use Rattle.blk_io.specs.Counts.{CallCounts, CountsCall}
+use Rattle.spec_image.specs.Steps.{TrailStep}
+use Rattle.spec_image.specs.Told.{Applies, Told, AgreesWithTrail, TellsBytes}
+use Rattle.blk_io.specs.Counts.{CallCounts, CountsCall, FindsMemory, fails_next, lasting, next_failure}
 use Rattle.blk_io.specs.MemFolder.{mem_told, mem_counts, mem_agrees, mem_are_bytes}
 
 -- the files and the write trace of the folder inside
@@ -39,3 +40,12 @@ pub record IsFolderStopped (old new : StopFolder) (failed : Bool) : Type 0 where
 pub record PassesOn (old new : StopFolder) (failed cause : Bool) : Type 0 where
   pub stopped : steps_left old ≡ 0 → IsFolderStopped old new failed
   pub passed : 0 < steps_left old → CountsCall (stop_counts old) (stop_counts new) failed cause
+
+-- a write is such a call, which fails where it was listed to, or where it has more steps than are left
+abbrev pub PassesWriteOn : (old new : StopFolder) → (failed : Bool) → List TrailStep → Type 0
+PassesWriteOn old new failed steps = PassesOn old new failed (fails_next (stop_counts old) || nat_lt (steps_left old) (length steps))
+
+-- unless memory ran out, a write made as many of its steps as were left, or fewer where it was listed to fail with fewer
+abbrev pub LastsWhileLeft : (old new : StopFolder) → List TrailStep → Type 0
+LastsWhileLeft old new steps =
+    FindsMemory (stop_counts old) (stop_counts new) → Applies (stop_told old) (stop_told new) (take (lasting (next_failure (stop_counts old)) (steps_left old)) steps)

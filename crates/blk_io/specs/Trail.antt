@@ -51,8 +51,8 @@ abbrev pub prefix_in : ℕ → ℕ → ℕ → ℕ
 prefix_in at n words = if words == 0 then 0 else min n (4 * (at / 4 + words) - at)
 
 -- how many 32-bit words a write of n bytes at an offset touches
-abbrev pub words_in : ℕ → ℕ → ℕ
-words_in at n = if n == 0 then 0 else (at % 4 + n + 3) / 4
+abbrev pub words_touched : ℕ → ℕ → ℕ
+words_touched at n = if n == 0 then 0 else (at % 4 + n + 3) / 4
 
 -- a prefix of the steps was made, and the number of steps that may still be made fell from `before` to `now` by its length
 pub record UsesUp (old new : Told) (steps : List TrailStep) (before now : ℕ) : Type 0 where

@@ -1,14 +1,15 @@
 // A folder in memory, which keeps its start files, its files and each step since.
-ghost use Rattle.std.specs.Prelude.{◌≡◌, ◌-◌, ◌^◌, ◌<◌, ◌≤◌, [], ◌∷◌, length, take, min, Some, None, OnOk, OnErr, IfOk, IsSome, is_err};
+ghost use Rattle.std.specs.Prelude.{◌≡◌, ◌-◌, ◌^◌, ◌<◌, ◌≤◌, [], ◌∷◌, length, min, Some, None, OnOk, OnErr, IfOk, IsSome, is_err};
 ghost use Rattle.std.specs.Option.{ForSome, option_map};
 ghost use Rattle.spec_image.specs.Image.{HasRange, empty_image, AreBytes};
-ghost use Rattle.spec_image.specs.Order.{IsAfter, IsNextFile};
-ghost use Rattle.spec_image.specs.Steps.{SetLength, Delete, Note, words, image_at};
+ghost use Rattle.spec_image.specs.Order.{IsAfter};
+ghost use Rattle.spec_image.specs.Steps.{SetLength, Delete, Note, words};
 ghost use Rattle.spec_image.specs.Told.{Applies, AppliesPrefix, Stays, Rises, GivesBytes};
-ghost use Rattle.blk_io.specs.FileNames.{file_of};
+ghost use Rattle.blk_io.specs.Faults.{OkFor};
+ghost use Rattle.blk_io.specs.FileNames.{file_of, IsNextName};
 ghost use Rattle.blk_io.specs.Files.{image_of};
 ghost use Rattle.blk_io.specs.Trail.{IsTrailOf, AreBytesAlong, kept_steps};
-ghost use Rattle.blk_io.specs.Counts.{no_calls, with_listed, next_failure, fails_next, CountsCall, FindsMemory};
+ghost use Rattle.blk_io.specs.Counts.{no_calls, with_listed, fails_next, CountsCall};
 
 use crate::calls::Calls;
 use crate::mem_files::{MemFile, copy_files, length_in, next_file, put_file, read_in};
@@ -30,7 +31,7 @@ pub struct MemFolder {
 }
 
 impl MemFolder {
-    ghost use Rattle.blk_io.specs.MemFolder.{mem_told, mem_counts, newly_told, told_with_file};
+    ghost use Rattle.blk_io.specs.MemFolder.{mem_told, mem_counts, newly_told, told_with_file, BeginsAfter};
 
     /// An empty folder, which keeps a write trace.
     pub fn new(alloc: Global) -> Self
@@ -113,7 +114,7 @@ impl MemFolder {
     pub fn image(&self, steps: u64) -> Result<MemFolder, NoMemory>
         requires told { IsSome (mem_told self.now).trail }
         requires within { ForSome (mem_told self.now).trail (λ trail. steps ≤ length trail.steps) }
-        ensures told { IfOk result (λ folder. ForSome (mem_told self.now).trail (λ trail. mem_told folder ≡ newly_told (image_at trail.start trail.steps steps))) }
+        ensures told { IfOk result (λ folder. ForSome (mem_told self.now).trail (λ trail. BeginsAfter steps trail folder)) }
         ensures counts { IfOk result (λ folder. mem_counts folder ≡ no_calls) }
     {
         let alloc = self.alloc;
@@ -136,7 +137,7 @@ impl MemFolder {
 }
 
 impl Folder for MemFolder {
-    ghost use Rattle.blk_io.specs.MemFolder.{mem_told, mem_counts, mem_agrees, mem_are_bytes};
+    ghost use Rattle.blk_io.specs.MemFolder.{mem_told, mem_counts, mem_agrees, mem_are_bytes, LastsAsListed};
 
     ghost told = { mem_told };
 
@@ -185,7 +186,7 @@ impl Folder for MemFolder {
         ensures counted { CountsCall (mem_counts self.old) (mem_counts self.new) (is_err result) (fails_next (mem_counts self.old)) }
 
         // Where it is listed to fail, the listed number of its words was written.
-        ensures lasted { FindsMemory (mem_counts self.old) (mem_counts self.new) → ForSome (next_failure (mem_counts self.old)) (λ count. Applies (mem_told self.old) (mem_told self.new) (take count (words (file_of file) at bytes.now))) }
+        ensures lasted { LastsAsListed self.old self.new (words (file_of file) at bytes.now) }
         ensures lacking { (mem_counts self.old).lacks < (mem_counts self.new).lacks → Stays (mem_told self.old) (mem_told self.new) }
     {
         let mut left = word_count(at, bytes);
@@ -222,7 +223,7 @@ impl Folder for MemFolder {
 
     fn list(&mut self, after: Option<FileId>) -> Result<Option<FileId>, Failed>
         ensures after { IfOk result (λ next. ForSome next (λ file. IsAfter (option_map file_of after) (file_of file))) }
-        ensures next { IfOk result (λ next. ForSome (mem_told self.old).files (λ image. IsNextFile image (option_map file_of after) (option_map file_of next))) }
+        ensures next { OkFor result (mem_told self.old) (IsNextName after) }
         ensures stays { Stays (mem_told self.old) (mem_told self.new) }
         ensures later { (mem_counts self.old).faults ≤ (mem_counts self.new).faults }
         ensures failed { OnErr result (Rises (mem_counts self.old).faults (mem_counts self.new).faults) }

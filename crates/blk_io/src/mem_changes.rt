@@ -1,5 +1,5 @@
 // The changes of a folder in memory, each kept as steps where it keeps a write trace.
-ghost use Rattle.std.specs.Prelude.{◌≡◌, ◌||◌, nat_lt, ◌<◌, ◌≤◌, [], ◌∷◌, length, take, OnOk, OnErr, is_some, is_err};
+ghost use Rattle.std.specs.Prelude.{◌≡◌, ◌||◌, nat_lt, ◌<◌, ◌≤◌, [], ◌∷◌, length, OnOk, OnErr, is_some, is_err};
 ghost use Rattle.std.specs.Option.{ForSome};
 ghost use Rattle.spec_image.specs.Image.{HasRange};
 ghost use Rattle.spec_image.specs.Steps.{SetLength, Delete, words};
@@ -7,7 +7,7 @@ ghost use Rattle.spec_image.specs.Told.{Applies, AppliesPrefix, Stays, Rises};
 ghost use Rattle.blk_io.specs.FileNames.{file_of};
 ghost use Rattle.blk_io.specs.Files.{image_of};
 ghost use Rattle.blk_io.specs.Trail.{UsesUp};
-ghost use Rattle.blk_io.specs.Counts.{next_failure, fails_next, lasting, CountsCall, FindsMemory};
+ghost use Rattle.blk_io.specs.Counts.{lasting};
 
 use crate::mem::MemFolder;
 use crate::mem_files::{remove, resize, write_over};
@@ -33,7 +33,7 @@ fn is_cut(listed: Option<u64>, left: u64, steps: u64) -> bool
 }
 
 impl MemFolder {
-    ghost use Rattle.blk_io.specs.MemFolder.{mem_told, mem_counts};
+    ghost use Rattle.blk_io.specs.MemFolder.{mem_told, mem_counts, CountsWrite, LastsWithin};
 
     // Writes bytes of a file.
     fn write_front(&mut self, file: FileId, at: u64, bytes: &[u8]) -> Result<(), AllocError>
@@ -87,8 +87,8 @@ impl MemFolder {
         ensures prefix { AppliesPrefix (mem_told self.old) (mem_told self.new) (words (file_of file) at bytes.now) }
         ensures later { (mem_counts self.old).faults ≤ (mem_counts self.new).faults }
         ensures failed { OnErr result (Rises (mem_counts self.old).faults (mem_counts self.new).faults) }
-        ensures counted { CountsCall (mem_counts self.old) (mem_counts self.new) (is_err result) (fails_next (mem_counts self.old) || nat_lt left.old (length (words (file_of file) at bytes.now))) }
-        ensures lasted { FindsMemory (mem_counts self.old) (mem_counts self.new) → Applies (mem_told self.old) (mem_told self.new) (take (lasting (next_failure (mem_counts self.old)) left.old) (words (file_of file) at bytes.now)) }
+        ensures counted { CountsWrite left.old self.old self.new (is_err result) (words (file_of file) at bytes.now) }
+        ensures lasted { LastsWithin left.old self.old self.new (words (file_of file) at bytes.now) }
         ensures lacking { (mem_counts self.old).lacks < (mem_counts self.new).lacks → Stays (mem_told self.old) (mem_told self.new) }
         ensures used { UsesUp (mem_told self.old) (mem_told self.new) (words (file_of file) at bytes.now) left.old left.new }
     {

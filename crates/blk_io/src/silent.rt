@@ -2,11 +2,12 @@
 ghost use Rattle.std.specs.Prelude.{◌≡◌, ◌≤◌, [], ◌∷◌, length, OnOk, OnErr, IfOk};
 ghost use Rattle.std.specs.Option.{ForSome, option_map};
 ghost use Rattle.spec_image.specs.Image.{length_of};
-ghost use Rattle.spec_image.specs.Order.{IsAfter, IsNextFile};
+ghost use Rattle.spec_image.specs.Order.{IsAfter};
 ghost use Rattle.spec_image.specs.Steps.{SetLength, Delete, Note, words};
 ghost use Rattle.spec_image.specs.Told.{Applies, AppliesPrefix, GivesBytes, Rises, Stays};
 ghost use Rattle.blk_io.specs.Counts.{one_more};
-ghost use Rattle.blk_io.specs.FileNames.{file_of};
+ghost use Rattle.blk_io.specs.Faults.{OkFor};
+ghost use Rattle.blk_io.specs.FileNames.{file_of, IsNextName};
 
 use crate::{Failed, FileId, Folder};
 
@@ -22,11 +23,11 @@ pub struct SilentFolder<F> {
 }
 
 impl<F: Folder> SilentFolder<F> {
-    ghost use Rattle.blk_io.specs.SilentFolder.{calls_of, folder_of};
+    ghost use Rattle.blk_io.specs.SilentFolder.{calls_of, inner_of};
 
     /// Passes on to this folder.
     pub fn new(inner: F) -> SilentFolder<F>
-        ensures inner { folder_of result ≡ inner }
+        ensures inner { inner_of result ≡ inner }
         ensures calls { calls_of result ≡ 0 }
     {
         SilentFolder {
@@ -38,7 +39,7 @@ impl<F: Folder> SilentFolder<F> {
 
     /// The folder to which the calls were passed on.
     pub fn into_inner(self) -> F
-        ensures { result ≡ folder_of self }
+        ensures { result ≡ inner_of self }
     {
         self.inner
     }
@@ -92,23 +93,23 @@ fn write_inside<F: Folder>(
 }
 
 impl<F: Folder> Folder for SilentFolder<F> {
-    ghost use Rattle.blk_io.specs.SilentFolder.{calls_of, faults_of, folder_of};
+    ghost use Rattle.blk_io.specs.SilentFolder.{calls_of, silent_faults, inner_of};
     ghost use Rattle.blk_io.specs.Untold.{untold, untold_agrees, untold_bytes};
 
     ghost told = { λ _. untold };
 
-    ghost faults = { faults_of };
+    ghost faults = { silent_faults };
 
     ghost agrees = { λ folder. untold_agrees };
 
     ghost are_bytes = { λ folder. untold_bytes };
 
     fn length(&mut self, file: FileId) -> Result<Option<u64>, Failed>
-        ensures later { faults_of self.old ≤ faults_of self.new }
-        ensures failed { OnErr result (Rises (faults_of self.old) (faults_of self.new)) }
+        ensures later { silent_faults self.old ≤ silent_faults self.new }
+        ensures failed { OnErr result (Rises (silent_faults self.old) (silent_faults self.new)) }
         ensures calls { calls_of self.new ≡ one_more (calls_of self.old) }
-        ensures inside { IfOk result (λ n. ForSome (F.told (folder_of self.old)).files (λ image. n ≡ option_map length (image (file_of file)))) }
-        ensures inside_stays { Stays (F.told (folder_of self.old)) (F.told (folder_of self.new)) }
+        ensures inside { IfOk result (λ n. ForSome (F.told (inner_of self.old)).files (λ image. n ≡ option_map length (image (file_of file)))) }
+        ensures inside_stays { Stays (F.told (inner_of self.old)) (F.told (inner_of self.new)) }
     {
         self.calls = self.calls.saturating_add(1);
         counted(self.inner.length(file), &mut self.faults)
@@ -116,22 +117,22 @@ impl<F: Folder> Folder for SilentFolder<F> {
 
     fn read_at(&mut self, file: FileId, at: u64, out: &mut [u8]) -> Result<usize, Failed>
         ensures within { IfOk result (λ n. n ≤ length out.old) }
-        ensures later { faults_of self.old ≤ faults_of self.new }
-        ensures failed { OnErr result (Rises (faults_of self.old) (faults_of self.new)) }
+        ensures later { silent_faults self.old ≤ silent_faults self.new }
+        ensures failed { OnErr result (Rises (silent_faults self.old) (silent_faults self.new)) }
         ensures calls { calls_of self.new ≡ one_more (calls_of self.old) }
-        ensures inside { IfOk result (λ n. ForSome (F.told (folder_of self.old)).files (λ image. GivesBytes image (file_of file) at out.old out.new n)) }
-        ensures inside_stays { Stays (F.told (folder_of self.old)) (F.told (folder_of self.new)) }
+        ensures inside { IfOk result (λ n. ForSome (F.told (inner_of self.old)).files (λ image. GivesBytes image (file_of file) at out.old out.new n)) }
+        ensures inside_stays { Stays (F.told (inner_of self.old)) (F.told (inner_of self.new)) }
     {
         self.calls = self.calls.saturating_add(1);
         counted(self.inner.read_at(file, at, out), &mut self.faults)
     }
 
     fn write_at(&mut self, file: FileId, at: u64, bytes: &[u8]) -> Result<(), Failed>
-        ensures later { faults_of self.old ≤ faults_of self.new }
-        ensures failed { OnErr result (Rises (faults_of self.old) (faults_of self.new)) }
+        ensures later { silent_faults self.old ≤ silent_faults self.new }
+        ensures failed { OnErr result (Rises (silent_faults self.old) (silent_faults self.new)) }
         ensures calls { calls_of self.new ≡ one_more (calls_of self.old) }
-        ensures inside { OnOk result (Applies (F.told (folder_of self.old)) (F.told (folder_of self.new)) (words (file_of file) at bytes.now)) }
-        ensures inside_part { AppliesPrefix (F.told (folder_of self.old)) (F.told (folder_of self.new)) (words (file_of file) at bytes.now) }
+        ensures inside { OnOk result (Applies (F.told (inner_of self.old)) (F.told (inner_of self.new)) (words (file_of file) at bytes.now)) }
+        ensures inside_part { AppliesPrefix (F.told (inner_of self.old)) (F.told (inner_of self.new)) (words (file_of file) at bytes.now) }
     {
         self.calls = self.calls.saturating_add(1);
         counted(
@@ -141,22 +142,22 @@ impl<F: Folder> Folder for SilentFolder<F> {
     }
 
     fn set_len(&mut self, file: FileId, length: u64) -> Result<(), Failed>
-        ensures later { faults_of self.old ≤ faults_of self.new }
-        ensures failed { OnErr result (Rises (faults_of self.old) (faults_of self.new)) }
+        ensures later { silent_faults self.old ≤ silent_faults self.new }
+        ensures failed { OnErr result (Rises (silent_faults self.old) (silent_faults self.new)) }
         ensures calls { calls_of self.new ≡ one_more (calls_of self.old) }
-        ensures inside { OnOk result (Applies (F.told (folder_of self.old)) (F.told (folder_of self.new)) (SetLength (file_of file) length ∷ [])) }
-        ensures inside_undone { OnErr result (Stays (F.told (folder_of self.old)) (F.told (folder_of self.new))) }
+        ensures inside { OnOk result (Applies (F.told (inner_of self.old)) (F.told (inner_of self.new)) (SetLength (file_of file) length ∷ [])) }
+        ensures inside_undone { OnErr result (Stays (F.told (inner_of self.old)) (F.told (inner_of self.new))) }
     {
         self.calls = self.calls.saturating_add(1);
         counted(self.inner.set_len(file, length), &mut self.faults)
     }
 
     fn delete(&mut self, file: FileId) -> Result<(), Failed>
-        ensures later { faults_of self.old ≤ faults_of self.new }
-        ensures failed { OnErr result (Rises (faults_of self.old) (faults_of self.new)) }
+        ensures later { silent_faults self.old ≤ silent_faults self.new }
+        ensures failed { OnErr result (Rises (silent_faults self.old) (silent_faults self.new)) }
         ensures calls { calls_of self.new ≡ one_more (calls_of self.old) }
-        ensures inside { OnOk result (Applies (F.told (folder_of self.old)) (F.told (folder_of self.new)) (Delete (file_of file) ∷ [])) }
-        ensures inside_undone { OnErr result (Stays (F.told (folder_of self.old)) (F.told (folder_of self.new))) }
+        ensures inside { OnOk result (Applies (F.told (inner_of self.old)) (F.told (inner_of self.new)) (Delete (file_of file) ∷ [])) }
+        ensures inside_undone { OnErr result (Stays (F.told (inner_of self.old)) (F.told (inner_of self.new))) }
     {
         self.calls = self.calls.saturating_add(1);
         counted(self.inner.delete(file), &mut self.faults)
@@ -164,11 +165,11 @@ impl<F: Folder> Folder for SilentFolder<F> {
 
     fn list(&mut self, after: Option<FileId>) -> Result<Option<FileId>, Failed>
         ensures after { IfOk result (λ next. ForSome next (λ file. IsAfter (option_map file_of after) (file_of file))) }
-        ensures later { faults_of self.old ≤ faults_of self.new }
-        ensures failed { OnErr result (Rises (faults_of self.old) (faults_of self.new)) }
+        ensures later { silent_faults self.old ≤ silent_faults self.new }
+        ensures failed { OnErr result (Rises (silent_faults self.old) (silent_faults self.new)) }
         ensures calls { calls_of self.new ≡ one_more (calls_of self.old) }
-        ensures inside { IfOk result (λ next. ForSome (F.told (folder_of self.old)).files (λ image. IsNextFile image (option_map file_of after) (option_map file_of next))) }
-        ensures inside_stays { Stays (F.told (folder_of self.old)) (F.told (folder_of self.new)) }
+        ensures inside { OkFor result (F.told (inner_of self.old)) (IsNextName after) }
+        ensures inside_stays { Stays (F.told (inner_of self.old)) (F.told (inner_of self.new)) }
     {
         self.calls = self.calls.saturating_add(1);
         counted(self.inner.list(after), &mut self.faults)
@@ -179,11 +180,11 @@ impl<F: Folder> Folder for SilentFolder<F> {
     }
 
     fn note(&mut self, answered: u64) -> Result<(), Failed>
-        ensures later { faults_of self.old ≤ faults_of self.new }
-        ensures failed { OnErr result (Rises (faults_of self.old) (faults_of self.new)) }
+        ensures later { silent_faults self.old ≤ silent_faults self.new }
+        ensures failed { OnErr result (Rises (silent_faults self.old) (silent_faults self.new)) }
         ensures calls { calls_of self.new ≡ one_more (calls_of self.old) }
-        ensures inside { OnOk result (Applies (F.told (folder_of self.old)) (F.told (folder_of self.new)) (Note answered ∷ [])) }
-        ensures inside_undone { OnErr result (Stays (F.told (folder_of self.old)) (F.told (folder_of self.new))) }
+        ensures inside { OnOk result (Applies (F.told (inner_of self.old)) (F.told (inner_of self.new)) (Note answered ∷ [])) }
+        ensures inside_undone { OnErr result (Stays (F.told (inner_of self.old)) (F.told (inner_of self.new))) }
     {
         self.calls = self.calls.saturating_add(1);
         counted(self.inner.note(answered), &mut self.faults)

@@ -1,12 +1,13 @@
 // A folder that crashes after so many steps.
-ghost use Rattle.std.specs.Prelude.{◌≡◌, ◌==◌, ◌||◌, nat_lt, ◌+◌, ◌≤◌, ◌<◌, [], ◌∷◌, length, take, OnOk, OnErr, IfOk, is_err, is_ok, if◌then◌else◌};
+ghost use Rattle.std.specs.Prelude.{◌≡◌, ◌==◌, ◌+◌, ◌≤◌, ◌<◌, [], ◌∷◌, length, OnOk, OnErr, IfOk, is_err, is_ok, if◌then◌else◌};
 ghost use Rattle.std.specs.Option.{ForSome, option_map};
 ghost use Rattle.spec_image.specs.Image.{HasRange};
-ghost use Rattle.spec_image.specs.Order.{IsAfter, IsNextFile};
+ghost use Rattle.spec_image.specs.Order.{IsAfter};
 ghost use Rattle.spec_image.specs.Steps.{SetLength, Delete, Note, words};
 ghost use Rattle.spec_image.specs.Told.{Applies, AppliesPrefix, Stays, Rises, GivesBytes};
-ghost use Rattle.blk_io.specs.FileNames.{file_of};
-ghost use Rattle.blk_io.specs.Counts.{next_failure, fails_next, lasting, FindsMemory};
+ghost use Rattle.blk_io.specs.Faults.{OkFor};
+ghost use Rattle.blk_io.specs.FileNames.{file_of, IsNextName};
+ghost use Rattle.blk_io.specs.Counts.{fails_next};
 ghost use Rattle.blk_io.specs.Trail.{UsesUp};
 
 use crate::{Failed, FileId, Folder, MemFolder};
@@ -62,7 +63,7 @@ impl StopFolder {
 }
 
 impl Folder for StopFolder {
-    ghost use Rattle.blk_io.specs.StopFolder.{stop_told, stop_counts, stop_faults, steps_left, stop_agrees, stop_are_bytes, PassesOn};
+    ghost use Rattle.blk_io.specs.StopFolder.{stop_told, stop_counts, stop_faults, steps_left, stop_agrees, stop_are_bytes, LastsWhileLeft, PassesOn, PassesWriteOn};
 
     ghost told = { stop_told };
 
@@ -103,10 +104,10 @@ impl Folder for StopFolder {
         ensures prefix { AppliesPrefix (stop_told self.old) (stop_told self.new) (words (file_of file) at bytes.now) }
         ensures later { stop_faults self.old ≤ stop_faults self.new }
         ensures failed { OnErr result (Rises (stop_faults self.old) (stop_faults self.new)) }
-        ensures passes { PassesOn self.old self.new (is_err result) (fails_next (stop_counts self.old) || nat_lt (steps_left self.old) (length (words (file_of file) at bytes.now))) }
+        ensures passes { PassesWriteOn self.old self.new (is_err result) (words (file_of file) at bytes.now) }
 
         // The words that last are as many as are left, or fewer where a listed failure says so.
-        ensures lasted { FindsMemory (stop_counts self.old) (stop_counts self.new) → Applies (stop_told self.old) (stop_told self.new) (take (lasting (next_failure (stop_counts self.old)) (steps_left self.old)) (words (file_of file) at bytes.now)) }
+        ensures lasted { LastsWhileLeft self.old self.new (words (file_of file) at bytes.now) }
         ensures lacking { (stop_counts self.old).lacks < (stop_counts self.new).lacks → Stays (stop_told self.old) (stop_told self.new) }
         ensures left { UsesUp (stop_told self.old) (stop_told self.new) (words (file_of file) at bytes.now) (steps_left self.old) (steps_left self.new) }
     {
@@ -144,7 +145,7 @@ impl Folder for StopFolder {
 
     fn list(&mut self, after: Option<FileId>) -> Result<Option<FileId>, Failed>
         ensures after { IfOk result (λ next. ForSome next (λ file. IsAfter (option_map file_of after) (file_of file))) }
-        ensures next { IfOk result (λ next. ForSome (stop_told self.old).files (λ image. IsNextFile image (option_map file_of after) (option_map file_of next))) }
+        ensures next { OkFor result (stop_told self.old) (IsNextName after) }
         ensures stays { Stays (stop_told self.old) (stop_told self.new) }
         ensures later { stop_faults self.old ≤ stop_faults self.new }
         ensures failed { OnErr result (Rises (stop_faults self.old) (stop_faults self.new)) }
