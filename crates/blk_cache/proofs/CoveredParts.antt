@@ -10,7 +10,7 @@ use Rattle.blk_evict.specs.RoomLaws.{AreOfNamed}
 use Rattle.blk_cache.specs.declared.cache.Cache.{Cache}
 use Rattle.blk_cache.specs.declared.covered.Covered.{Covered}
 use Rattle.blk_cache.specs.CacheKeeping.{HoldsState}
-use Rattle.blk_cache.specs.Covering.{AreCovered, ForCovered, NoPartsAreCovered, no_parts}
+use Rattle.blk_cache.specs.Covering.{AreCovered, ForCovered, NoPartsAreCovered, none_in_range}
 
 none-more : (n : ℕ) → n ≡ n + 0
 none-more n = omega arith
@@ -19,7 +19,7 @@ pub none-covered : NoPartsAreCovered
 none-covered state layout = record { lie = record { of_named = tt; nodes = λ item listed. refl }; bytes = none-more _; items = none-more _ }
 
 -- what holds whatever parts are in range holds where none is
-pub for-none : (cache : Cache) (parts : Covered) (told : Told) (P : State → List Item → Type 0) → parts ≡ no_parts → ForCovered cache parts told P → ForKept (HoldsState cache) told (λ state. P state [])
+pub for-none : (cache : Cache) (parts : Covered) (told : Told) (P : State → List Item → Type 0) → parts ≡ none_in_range → ForCovered cache parts told P → ForKept (HoldsState cache) told (λ state. P state [])
 for-none cache parts told P is holds image there state k = holds image there state k [] (subst (AreCovered state k.layout []) (sym is) (none-covered state k.layout))
 
 -- a main item is none of the parts in range

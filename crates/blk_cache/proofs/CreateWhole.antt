@@ -28,7 +28,7 @@ use Rattle.blk_cache.specs.declared.cache.Cache.{Cache}
 use Rattle.blk_cache.specs.declared.covered.Covered.{Covered}
 use Rattle.blk_cache.specs.CacheKeeping.{HoldsState}
 use Rattle.blk_cache.specs.CommandClauses.{IsRefused, KeepsAny}
-use Rattle.blk_cache.specs.Covering.{no_parts}
+use Rattle.blk_cache.specs.Covering.{none_in_range}
 use Rattle.blk_cache.specs.Creating.{IsNotRefused, IsReadyForSome, IsReadyToCreate, WantsRoomAlone, create_refusal}
 use Rattle.blk_cache.specs.Evicting.{IsEvicting}
 use Rattle.blk_cache.specs.MakingRoom.{ForRoom}
@@ -111,7 +111,7 @@ module _ (cache : Cache) (told : Told) (moment handle : ℕ) (key : List ℕ) (a
   free-passes free image there state k = not-refused moment handle key state (alone image there state k) (free image there state k)
 
 -- what is evicted where there is space is evicted for a Create that isn't refused
-pub room-groups : (cache : Cache) (told : Told) (moment handle : ℕ) (key : List ℕ) (parts : Covered) (P : State → List Group → Type 0) → parts ≡ no_parts → IsNotRefused cache told moment handle key
+pub room-groups : (cache : Cache) (told : Told) (moment handle : ℕ) (key : List ℕ) (parts : Covered) (P : State → List Group → Type 0) → parts ≡ none_in_range → IsNotRefused cache told moment handle key
     → ForRoom cache parts told (length key) 1 P → ForKept (HoldsState cache) told (λ state. P state (evicted_for (room state [] (length key) 1)))
 room-groups cache told moment handle key parts P none passes holds image there state k =
     for-none cache parts told (λ state covered. is_full (room state covered (length key) 1) ≡ false → P state (evicted_for (room state covered (length key) 1))) none holds image there state k

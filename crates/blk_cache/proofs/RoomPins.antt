@@ -9,7 +9,7 @@ use Rattle.blk_model.specs.State.{Bounds, Object, State, is_named, object_at}
 use Rattle.blk_model.specs.Refusals.{evicted_for, is_full}
 use Rattle.blk_model.specs.Room.{Group, Room, full, after, charge, count_of, evicted_until, fits, item_count, low, of_slot, own_charge, pinned, pinned_from, pinned_of, room, total_of}
 use Rattle.blk_cache.specs.CacheKeeping.{named_from}
-use Rattle.blk_cache.specs.Covering.{part_count}
+use Rattle.blk_cache.specs.Covering.{count_in_range}
 use Rattle.blk_cache.specs.RoomTold.{NamedObjectsArePinned, RoomIsMade, RoomIsTold, is_over}
 
 -- where no part is in range none is pinned
@@ -110,7 +110,7 @@ room-told cache state image covered parts bytes more k are =
     ∙ full-is (bytes == 0 && more == 0) (is_over state.limits (total_of (pinned state covered)) (count_of (pinned state covered)) bytes more) (fits state.limits.max_bytes bytes more state) (evicted_until (fits (low state) bytes more) state covered)
     ∙ ap (λ (l : Bounds). not (bytes == 0 && more == 0) && is_over l (total_of (pinned state covered)) (count_of (pinned state covered)) bytes more) k.limits
     ∙ ap (λ (n : ℕ). not (bytes == 0 && more == 0) && is_over (bounds_of cache.limits) n (count_of (pinned state covered)) bytes more) (are.bytes ∙ ap (λ (n : ℕ). n + parts.bytes) (p.bytes ∙ sym k.open_bytes))
-    ∙ ap (λ (n : ℕ). not (bytes == 0 && more == 0) && is_over (bounds_of cache.limits) (cache.open_bytes + parts.bytes) n bytes more) (are.items ∙ ap (λ (n : ℕ). n + part_count parts) (p.items ∙ sym k.open_objects))
+    ∙ ap (λ (n : ℕ). not (bytes == 0 && more == 0) && is_over (bounds_of cache.limits) (cache.open_bytes + parts.bytes) n bytes more) (are.items ∙ ap (λ (n : ℕ). n + count_in_range parts) (p.items ∙ sym k.open_objects))
 
 pub room-made : RoomIsMade
 room-made state covered bytes more free =

@@ -19,7 +19,7 @@ use Rattle.blk_sparse.specs.SparseWrites.{signature_to}
 use Rattle.blk_sparse.proofs.WritingCovered.{covers-one, covers-two}
 use Rattle.blk_evict.specs.RoomLaws.{AreOfNamed}
 use Rattle.blk_cache.specs.declared.covered.Covered.{Covered}
-use Rattle.blk_cache.specs.Covering.{AreCovered, is_node, one_if_some, part_count}
+use Rattle.blk_cache.specs.Covering.{AreCovered, is_node, one_if_some, count_in_range}
 use Rattle.blk_cache.specs.SparseWriting.{IsTargetOf, MeasuredPartsAreCovered, covered_of}
 use Rattle.blk_cache.proofs.ChangedObjects.{its-named}
 use Rattle.blk_cache.proofs.CreateRoom.{main-pinned}
@@ -70,7 +70,7 @@ module _ (state : State) (valid : IsValidState state) (layout : Layout) (lies : 
       charged ∙ m.charged ∙ ap (sum_by (charge_there object (signature_to target))) cover ∙ (let sum = sum_by-cons (charge_there object (signature_to target)) n [] in let e : sum_by (charge_there object (signature_to target)) (n ∷ []) ≡ charge_there object (signature_to target) n = omega (arith, sum) in e)
       ∙ there-same object target object_valid is n in
       let more : AreMore state valid number object here live named (map (part object.key) (n ∷ [])) (charge_there object (signature_of object.shape) n) (one_there state valid number object here live named n) = one-pinned state valid number object here live named n in
-      let counted : part_count parts ≡ one_there state valid number object here live named n =
+      let counted : count_in_range parts ≡ one_there state valid number object here live named n =
       ap₂ (λ (a b : Option ℕ). one_if_some a + one_if_some b) first_is second_is ∙ (let c = node-counts layout object n (part_at object n) refl in let e : one_if_some (node_there layout object n) + 0 ≡ option_map_or (λ (v : PartValue). 1) (part_at object n) 0 = omega (arith, c) in e) in
       subst (λ (ns : List ℕ). AreCovered state layout (map (part object.key) ns) parts) (sym cover)
       (record {
@@ -96,7 +96,7 @@ module _ (state : State) (valid : IsValidState state) (layout : Layout) (lies : 
       ∙ ap₂ (λ (a b : ℕ). a + b) (there-same object target object_valid is n) (there-same object target object_valid is (n + 1)) in
       let more : AreMore state valid number object here live named (map (part object.key) (n ∷ (n + 1) ∷ [])) (charge_there object (signature_of object.shape) n + charge_there object (signature_of object.shape) (n + 1)) (one_there state valid number object here live named n + one_there state valid number object here live named (n + 1)) =
       two-pinned state valid number object here live named n (n + 1) (next-apart n) in
-      let counted : part_count parts ≡ one_there state valid number object here live named n + one_there state valid number object here live named (n + 1) =
+      let counted : count_in_range parts ≡ one_there state valid number object here live named n + one_there state valid number object here live named (n + 1) =
       ap₂ (λ (a b : Option ℕ). one_if_some a + one_if_some b) first_is second_is ∙ ap₂ (λ (a b : ℕ). a + b) (node-counts layout object n (part_at object n) refl) (node-counts layout object (n + 1) (part_at object (n + 1)) refl) in
       subst (λ (ns : List ℕ). AreCovered state layout (map (part object.key) ns) parts) (sym cover)
       (record {

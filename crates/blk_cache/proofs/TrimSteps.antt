@@ -22,7 +22,7 @@ use Rattle.blk_cache.specs.declared.cache.Cache.{Cache}
 use Rattle.blk_cache.specs.declared.goal.Goal.TheVariants as goal
 use Rattle.blk_cache.specs.declared.covered.Covered.{Covered}
 use Rattle.blk_cache.specs.CacheKeeping.{HoldsState}
-use Rattle.blk_cache.specs.Covering.{ForCovered, no_parts}
+use Rattle.blk_cache.specs.Covering.{ForCovered, none_in_range}
 use Rattle.blk_cache.specs.Evicting.{IsEvicting, count_of_groups, is_met}
 use Rattle.blk_evict.specs.RoomPrinting.{PrintsUnlessFailed}
 use Rattle.blk_cache.specs.Stepping.{SaysEvicted, SaysPrefix}
@@ -49,7 +49,7 @@ module _ (moment bytes : ℕ) where
   unfolding reply
   trim-answer state = ap answer_of (passed state moment (to_trim bytes) (trim-passes state)).1 ∙ ap (λ (groups : List Group). answer.Trimmed (count_of_groups groups)) (trim-evicts state)
 
-  module _ (cache : Cache) (parts : Covered) (is : parts ≡ no_parts) (told now : Told) where
+  module _ (cache : Cache) (parts : Covered) (is : parts ≡ none_in_range) (told now : Told) where
     pub trim-stops : ForCovered cache parts told (λ state covered. Passes told now (IsEvicting (evicted_until (is_met (goal.Bytes bytes)) state covered) state)) → MayStopAtEach (HoldsState cache) told now moment (to_trim bytes)
     trim-stops evicting image there state k =
         let may : (i : Image) → IsEvicting (evicted_until (is_met (goal.Bytes bytes)) state []) state i → MayStop state moment (to_trim bytes) i

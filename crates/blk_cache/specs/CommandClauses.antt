@@ -42,6 +42,14 @@ KeepsAny cache image = (state : State) × HoldsState cache state image
 abbrev pub ForLayout : Cache → Told → (State → Layout → Type 0) → Type 0
 ForLayout cache told P = ForSome told.files (λ image. (state : State) → (k : HoldsState cache state image) → P state k.layout)
 
+-- P holds of each state that the cache keeps on any image
+abbrev pub ForAnyKept : Cache → (State → Type 0) → Type 0
+ForAnyKept cache P = (state : State) (image : Image) → HoldsState cache state image → P state
+
+-- the new cache keeps what `change` makes of the state
+abbrev pub KeptAs : (new : Cache) → (now : Told) → (change : State → State) → State → Type 0
+KeptAs new now change state = ForSome now.files (HoldsState new (change state))
+
 -- Failed checks.
 
 -- What a call does for a command: each of these takes what the call left, and is a clause on what it found.
@@ -69,6 +77,24 @@ UndamagedBy result cache told moment request = UndamagedWhere result told (Keeps
 -- P holds of a command
 abbrev pub ForCall : Cache → Told → (moment : ℕ) → Request → CommandClause → Type 0
 ForCall cache told moment request P = P cache told moment request
+
+-- P holds of a command at any moment
+abbrev pub AtAnyMoment : Cache → Told → Request → CommandClause → Type 0
+AtAnyMoment cache told request P = (moment : ℕ) → P cache told moment request
+
+-- What the end of a command does, once its evictions are done.
+
+-- a clause on the end of a command: on the states that are ready for it, the folder before the call, the moment and the request
+abbrev pub EndClause : Type 1
+EndClause = (ready : State → Image → Type 0) → Told → (moment : ℕ) → Request → Type 0
+
+-- on an Ok the command is done, whatever state is ready for its end: the answer is the model's, and the new cache keeps the state after it
+abbrev pub EndedBy : (new : Cache) → (now : Told) → Result Answer Fault → EndClause
+EndedBy new now result ready told moment request = IfOk result (λ answer. Does ready (HoldsState new) told now moment request answer)
+
+-- the command may crash at each word of the steps that were made, whatever state is ready for its end
+abbrev pub EndingBy : (now : Told) → EndClause
+EndingBy now ready told moment request = MayStopAtEach ready told now moment request
 
 -- Changes.
 

@@ -30,8 +30,8 @@ one_if_some None = 0
 one_if_some (Some node) = 1
 
 -- how many parts are in range, of those that exist
-abbrev pub part_count : Covered → ℕ
-part_count parts = one_if_some parts.first + one_if_some parts.second
+abbrev pub count_in_range : Covered → ℕ
+count_in_range parts = one_if_some parts.first + one_if_some parts.second
 
 -- the items `covered` are parts of an object that a handle names, and a listed item is one of them exactly if its node is one of `parts`
 pub record LieCovered (state : State) (layout : Layout) (covered : List Item) (parts : Covered) : Type 0 where
@@ -42,11 +42,15 @@ pub record LieCovered (state : State) (layout : Layout) (covered : List Item) (p
 pub record AreCovered (state : State) (layout : Layout) (covered : List Item) (parts : Covered) : Type 0 where
   pub lie : LieCovered state layout covered parts
   pub bytes : total_of (pinned state covered) ≡ total_of (pinned state []) + parts.bytes
-  pub items : count_of (pinned state covered) ≡ count_of (pinned state []) + part_count parts
+  pub items : count_of (pinned state covered) ≡ count_of (pinned state []) + count_in_range parts
 
 -- P holds of each state that the cache keeps, with the items in range that lie at the nodes of `parts`
 abbrev pub ForCovered : Cache → Covered → Told → (State → List Item → Type 0) → Type 0
 ForCovered cache parts told P = ForSome told.files (λ image. (state : State) (kept : HoldsState cache state image) (covered : List Item) → AreCovered state kept.layout covered parts → P state covered)
+
+-- P holds of each state that the cache keeps on any image, with the items in range that lie at the nodes of `parts`
+abbrev pub ForAnyCovered : Cache → Covered → (State → List Item → Type 0) → Type 0
+ForAnyCovered cache parts P = (state : State) (image : Image) (kept : HoldsState cache state image) (covered : List Item) → AreCovered state kept.layout covered parts → P state covered
 
 -- the cache keeps some state, in which some items in range lie at the nodes of `parts`
 pub record KeepsCovered (cache : Cache) (parts : Covered) (image : Image) : Type 0 where
@@ -56,9 +60,9 @@ pub record KeepsCovered (cache : Cache) (parts : Covered) (image : Image) : Type
   pub are : AreCovered state kept.layout covered parts
 
 -- no part in range
-abbrev pub no_parts : Covered
-no_parts = record { first = None; second = None; bytes = 0 }
+abbrev pub none_in_range : Covered
+none_in_range = record { first = None; second = None; bytes = 0 }
 
 -- where no part is in range, `covered` is empty and nothing more is pinned
 abbrev pub NoPartsAreCovered : Type 0
-NoPartsAreCovered = (state : State) (layout : Layout) → AreCovered state layout [] no_parts
+NoPartsAreCovered = (state : State) (layout : Layout) → AreCovered state layout [] none_in_range

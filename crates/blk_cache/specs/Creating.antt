@@ -1,5 +1,6 @@
 -- A Create in a cache: when it is refused, which states may have the new object, and how the cache counts it.
 use Rattle.std.specs.Prelude.{◌≡◌, ℕ, ◌+◌, ◌-◌, ◌^◌, ◌≤◌, Bool, List, length, min, if◌then◌else◌}
+use Rattle.std.specs.Option.{ForSome}
 use Rattle.std.specs.declared.option.Option.{Option}
 use Rattle.std.specs.declared.option.Option.TheVariants.{None, Some}
 use Rattle.spec_image.specs.Image.{Image}
@@ -8,14 +9,15 @@ use Rattle.blk_model.specs.Room.{total}
 use Rattle.blk_model.specs.Refusals.{no_room, refused}
 use Rattle.blk_model.specs.Request.{to_create}
 use Rattle.blk_model.specs.State.{State, IsValidState}
+use Rattle.blk_model.specs.declared.Answer.TheVariants as answer
 use Rattle.blk_model.specs.declared.Refusal.{Refusal}
 use Rattle.blk_model.specs.declared.Refusal.TheVariants as refusal
-use Rattle.law_state.specs.Commands.{ForKept}
+use Rattle.law_state.specs.Commands.{ForKept, Does}
 use Rattle.law_state.specs.CommandStates.{with_room}
 use Rattle.blk_object.specs.Making.{CanHaveNew}
 use Rattle.blk_cache.specs.declared.cache.Cache.{Cache}
 use Rattle.blk_cache.specs.CacheKeeping.{HoldsState}
-use Rattle.blk_cache.specs.CommandClauses.{CommandClause}
+use Rattle.blk_cache.specs.CommandClauses.{CommandClause, EndClause}
 
 -- Refusals.
 
@@ -40,12 +42,41 @@ WhereWantsRoom cache told moment handle key P = WantsRoomAlone cache told moment
 abbrev pub WhereNotRefused : Cache → Told → (moment handle : ℕ) → List ℕ → CommandClause → Type 0
 WhereNotRefused cache told moment handle key P = IsNotRefused cache told moment handle key → P cache told moment (to_create handle key)
 
+-- P holds of each Create of an object with this key
+abbrev pub ForCreates : Cache → (key : List ℕ) → CommandClause → Type 0
+ForCreates cache key P = (told : Told) (moment handle : ℕ) → P cache told moment (to_create handle key)
+
+-- P holds of each Create of an object with this key that is refused only if there is no space
+abbrev pub ForWantingRoom : Cache → (key : List ℕ) → CommandClause → Type 0
+ForWantingRoom cache key P = (told : Told) (moment handle : ℕ) → WantsRoomAlone cache told moment handle key → P cache told moment (to_create handle key)
+
+-- where nothing is done, the command is done with the answer Full
+abbrev pub AnswersFull : CommandClause
+AnswersFull cache told moment request = Does (HoldsState cache) (HoldsState cache) told told moment request (answer.Refused refusal.Full)
+
+-- in no state that the cache keeps is the command refused
+abbrev pub NeverRefused : CommandClause
+NeverRefused cache told moment request = ForKept (HoldsState cache) told (λ state. refused moment request state ≡ None)
+
+-- in each state that the cache keeps, the Create is refused with the early reason, or else only if there is no space
+abbrev pub DecidesCreate : Cache → (handle : ℕ) → (key : List ℕ) → (early : Option Refusal) → Image → Type 0
+DecidesCreate cache handle key early image =
+    (state : State) (moment : ℕ) → HoldsState cache state image → refused moment (to_create handle key) state ≡ create_refusal early (no_room moment (to_create handle key) state)
+
 -- The new object.
 
 -- the state may have a new object of this key by this handle, and the sum of costs with it is within the limit
 pub record HasRoomFor (state : State) (handle : ℕ) (key : List ℕ) : Type 0 where
   pub can : CanHaveNew state handle key
   pub room : total state + length key ≤ state.limits.max_bytes
+
+-- P holds of each state that the cache keeps and that may have a new object of this key by this handle
+abbrev pub ForCanHave : Cache → Told → (handle : ℕ) → (key : List ℕ) → (State → Type 0) → Type 0
+ForCanHave cache told handle key P = ForSome told.files (λ from. (state : State) → HoldsState cache state from → CanHaveNew state handle key → P state)
+
+-- the same of each that has space for it within the limit
+abbrev pub ForHasRoom : Cache → Told → (handle : ℕ) → (key : List ℕ) → (State → Type 0) → Type 0
+ForHasRoom cache told handle key P = ForSome told.files (λ from. (state : State) → HoldsState cache state from → HasRoomFor state handle key → P state)
 
 -- the cache keeps some state that may have a new object of this key by this handle
 pub record KeepsWithRoom (cache : Cache) (handle : ℕ) (key : List ℕ) (image : Image) : Type 0 where
@@ -64,6 +95,10 @@ pub record IsReadyForSome (cache : Cache) (handle : ℕ) (key : List ℕ) (image
   pub state : State
   pub moment : ℕ
   pub ready : IsReadyToCreate cache state moment handle key image
+
+-- P holds of the end of a Create
+abbrev pub ForReadyCreate : Cache → Told → (moment handle : ℕ) → (key : List ℕ) → EndClause → Type 0
+ForReadyCreate cache told moment handle key P = P (λ state image. IsReadyToCreate cache state moment handle key image) told moment (to_create handle key)
 
 -- Counters.
 

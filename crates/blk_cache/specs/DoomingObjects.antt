@@ -15,11 +15,14 @@ use Rattle.spec_folder.specs.Found.{charge_of}
 use Rattle.spec_folder.specs.Layout.{Layout}
 use Rattle.spec_folder.specs.Loads.{Loaded}
 use Rattle.law_state.specs.Changes.{SameSession}
-use Rattle.law_state.specs.Keeping.{Keeps}
+use Rattle.law_state.specs.Keeping.{Keeps, KeepsUncounted}
+use Rattle.blk_chain.specs.declared.found.Found.{Found}
 use Rattle.blk_object.specs.RemovingFound.{LiesAsFound}
 use Rattle.blk_object.specs.RemovingObjects.{FindsEither}
 use Rattle.blk_object.specs.Writing.{node_of_object}
 use Rattle.blk_sparse.specs.declared.dropping.Gone.{Gone}
+use Rattle.blk_sparse.specs.Clauses.{ObjectClause}
+use Rattle.blk_sparse.specs.Parents.{ForEachParent}
 use Rattle.blk_cache.specs.declared.dooming_objects.Target.{Target}
 use Rattle.blk_io.specs.Faults.{OpaqueIfDamaged}
 use Rattle.blk_evict.specs.declared.item_names.EntryKind.{EntryKind}
@@ -64,6 +67,14 @@ pub record IsTargetAt (state : State) (layout : Layout) (key : List ℕ) (target
 abbrev pub IsDoomTarget : State → Layout → List ℕ → Option Target → Type 0
 IsDoomTarget state layout key None = live_with state key ≡ None
 IsDoomTarget state layout key (Some target) = IsTargetAt state layout key target
+
+-- in each state that the folder keeps, but for the counters, it is the answer of a search for the key
+abbrev pub FindsDoomTarget : (key : List ℕ) → Option Target → Image → Type 0
+FindsDoomTarget key answer image = (state : State) (layout : Layout) (unlinked : List ℕ) → KeepsUncounted state layout unlinked image → IsDoomTarget state layout key answer
+
+-- P holds of each live sparse object with this key, this node and the record that was found, that no handle names
+abbrev pub ForEachUnheld : (key : List ℕ) → (node : ℕ) → Found → Image → ObjectClause → Type 0
+ForEachUnheld key node found from P = ForEachParent key node found.entry found.before from P
 
 -- a live object that a handle names has this node and this record
 pub record LiesOpen (state : State) (layout : Layout) (number : ℕ) (object : Object) (node entry : ℕ) : Type 0 where

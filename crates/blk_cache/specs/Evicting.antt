@@ -1,5 +1,5 @@
 -- Eviction units are evicted one after another, until a goal is met.
-use Rattle.std.specs.Prelude.{◌≡◌, ℕ, Bool, List, [], ◌∷◌, ◌++◌, length, nat_le, sum_by}
+use Rattle.std.specs.Prelude.{◌≡◌, ℕ, Bool, List, [], ◌∷◌, ◌++◌, length, nat_le, sum_by, ◌+◌}
 use Rattle.std.specs.Option.{ForSome}
 use Rattle.std.specs.declared.option.Option.{Option}
 use Rattle.spec_image.specs.Image.{Image}
@@ -11,6 +11,7 @@ use Rattle.blk_model.specs.State.{State}
 use Rattle.spec_folder.specs.Layout.{Layout}
 use Rattle.law_state.specs.Changes.{Finds}
 use Rattle.blk_script.specs.Reply.{evicted_text}
+use Rattle.blk_object.specs.RemovingObjects.{FindsEither}
 use Rattle.blk_cache.specs.declared.cache.Cache.{Cache}
 use Rattle.blk_cache.specs.declared.covered.Covered.{Covered}
 use Rattle.blk_cache.specs.declared.goal.Goal.{Goal}
@@ -79,6 +80,18 @@ PrintedBy failed_before failed written old new state groups = PrintsUnlessFailed
 -- a prefix of the lines of the units was printed
 abbrev pub BegunBy : {S : Type 0} → (written : S → Option (List ℕ)) → (old new : S) → State → List Group → Type 0
 BegunBy written old new state groups = Appends (written old) (written new) (evicted_text groups)
+
+-- the new cache has as many items less as the units have
+abbrev pub CountedBy : (old new : Cache) → State → List Group → Type 0
+CountedBy old new state groups = old.items ≡ new.items + count_of_groups groups
+
+-- at each word of the steps that were made recovery gives the durable contents with the units or without them
+abbrev pub RemovingBy : (told now : Told) → State → List Group → Type 0
+RemovingBy told now state groups = Passes told now (FindsEither state (without groups state))
+
+-- the new cache keeps the state without the unit, and each item in its place
+abbrev pub UnitEvictedBy : (new : Cache) → (now : Told) → (from : Image) → State → Layout → Group → Type 0
+UnitEvictedBy new now from = λ state layout group. ForSome now.files (KeepsInPlaces new (without (group ∷ []) state) layout)
 
 -- P, one of these, holds of the units that are evicted until the goal is met
 abbrev pub ForGoal : Cache → Covered → Told → Goal → (State → List Group → Type 0) → Type 0

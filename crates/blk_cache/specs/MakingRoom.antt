@@ -2,6 +2,7 @@
 use Rattle.std.specs.Prelude.{◌≡◌, ℕ, Bool, List, [], false, true}
 use Rattle.spec_image.specs.Told.{Told}
 use Rattle.blk_model.specs.Refusals.{evicted_for, is_full}
+use Rattle.blk_model.specs.Items.{Item}
 use Rattle.blk_model.specs.Room.{Group, room}
 use Rattle.blk_model.specs.State.{State}
 use Rattle.law_state.specs.Commands.{ForKept}
@@ -17,6 +18,14 @@ abbrev pub says_full : Room → Bool
 says_full Full = true
 says_full Made = false
 
+-- the answer says that there is no space for so many more bytes and items exactly if there is none
+abbrev pub TellsFull : (bytes more : ℕ) → Room → State → List Item → Type 0
+TellsFull bytes more answer state covered = says_full answer ≡ is_full (room state covered bytes more)
+
+-- there is space for so many more bytes and items
+abbrev pub HasSpace : (bytes more : ℕ) → State → List Item → Type 0
+HasSpace bytes more state covered = is_full (room state covered bytes more) ≡ false
+
 -- P holds of each state that the cache keeps in which there is space for so many more bytes and items, with the eviction units that are evicted for them
 abbrev pub ForRoom : Cache → Covered → Told → (bytes more : ℕ) → (State → List Group → Type 0) → Type 0
 ForRoom cache parts told bytes more P = ForCovered cache parts told (λ state covered. is_full (room state covered bytes more) ≡ false → P state (evicted_for (room state covered bytes more)))
@@ -26,5 +35,5 @@ abbrev pub ForMaking : Cache → Told → (bytes more : ℕ) → (State → List
 ForMaking cache told bytes more P = ForKept (HoldsState cache) told (λ state. P state (evicted_for (room state [] bytes more)))
 
 -- P holds of the eviction units that are evicted where the items in range at the nodes of `parts` stay
-abbrev pub ForMakingBeside : Cache → Covered → Told → (bytes more : ℕ) → (State → List Group → Type 0) → Type 0
-ForMakingBeside cache parts told bytes more P = ForCovered cache parts told (λ state covered. P state (evicted_for (room state covered bytes more)))
+abbrev pub ForUnits : Cache → Covered → Told → (bytes more : ℕ) → (State → List Group → Type 0) → Type 0
+ForUnits cache parts told bytes more P = ForCovered cache parts told (λ state covered. P state (evicted_for (room state covered bytes more)))

@@ -19,8 +19,9 @@ use Rattle.blk_disk.specs.declared.tables.BlockFiles.{BlockFiles}
 use Rattle.blk_disk.specs.Loading.{IsLoadDamage}
 use Rattle.blk_disk.specs.Tables.{Agrees}
 use Rattle.blk_scan.specs.Faults.{IsScanDamage}
+use Rattle.blk_scan.specs.declared.scan.Scan.{Scan}
 use Rattle.blk_repair.specs.Endings.{EndsOrBreaksOff, EndsWithCrashWord}
-use Rattle.blk_repair.specs.Repair.{IsRepairDamage}
+use Rattle.blk_repair.specs.Repair.{IsRepairDamage, NeedsOnlyWords}
 use Rattle.blk_cache.specs.declared.opening.Opened.{Opened}
 use Rattle.blk_cache.specs.Opening.{StandsOpened, WasMadeAt}
 
@@ -59,6 +60,10 @@ OpenedBy now opened from = ForSome now.files (IsOpenedAs from opened)
 -- by its index the folder was made when it was before
 abbrev pub MadeBy : (now : Told) → (from : Image) → Type 0
 MadeBy now from = ForSome now.files (WasMadeAt (create_time_of (byte from Index)))
+
+-- the same, where the recovery by this scan has only words of the index to set
+abbrev pub MadeByWords : Scan → (now : Told) → (from : Image) → Type 0
+MadeByWords scan now from = NeedsOnlyWords scan from → MadeBy now from
 
 -- the folder was repaired and opened, or the repair broke off
 abbrev pub MendingBy : (told now : Told) → (from : Image) → Type 0

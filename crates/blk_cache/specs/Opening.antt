@@ -1,9 +1,12 @@
 -- The contracts of opening and of closing a cache.
 use Rattle.std.specs.Prelude.{◌≡◌, ℕ, Result, Ok, Err}
+use Rattle.std.specs.Option.{ForSome}
 use Rattle.spec_image.specs.Image.{Image, Index, byte}
 use Rattle.spec_image.specs.Told.{Told}
 use Rattle.blk_model.specs.Holding.{open_state}
-use Rattle.blk_model.specs.State.{Bounds}
+use Rattle.blk_model.specs.Bounds.{bounds_of}
+use Rattle.blk_model.specs.declared.bounds.Limits.{Limits}
+use Rattle.blk_model.specs.State.{Bounds, State}
 use Rattle.spec_format.specs.Headers.{crash_of, create_time_of, index_version, this_id_of, version_of}
 use Rattle.spec_folder.specs.Found.{HoldsStill, found}
 use Rattle.spec_folder.specs.Sound.{IsSound}
@@ -17,6 +20,8 @@ use Rattle.blk_repair.specs.Endings.{EndsOrBreaksOff, EndsWithCrashWord}
 use Rattle.spec_run.specs.Opening.{opened_id}
 use Rattle.blk_cache.specs.declared.fault.OpenFault.{OpenFault}
 use Rattle.blk_cache.specs.declared.fault.OpenFault.TheVariants.{Device, Damaged, Memory}
+use Rattle.blk_cache.specs.declared.cache.Cache.{Cache}
+use Rattle.blk_cache.specs.CacheKeeping.{KeepsState}
 
 -- the folder represents the state that is opened on the recovered contents of the image `entry`, in the session with the number that is next there
 pub record StandsOpened (entry image : Image) : Type 0 where
@@ -36,6 +41,18 @@ OpensOrBreaksOff entry old new = EndsOrBreaksOff old new (HoldsStill entry) (Sta
 -- by its index the folder was made at this moment
 abbrev pub WasMadeAt : ℕ → Image → Type 0
 WasMadeAt moment image = create_time_of (byte image Index) ≡ moment
+
+-- the cache keeps the recovered contents of the image `entry`, opened
+abbrev pub KeepsOpened : Cache → Limits → (entry image : Image) → Type 0
+KeepsOpened cache limits entry image = KeepsState cache (open_state (found entry) (bounds_of limits)) image
+
+-- the index has the number of the session that is next in the image `entry`
+abbrev pub IsInNextSession : (entry image : Image) → Type 0
+IsInNextSession entry image = this_id_of (byte image Index) ≡ opened_id entry
+
+-- P holds of an observable folder on which the cache keeps a state
+abbrev pub ForSession : Cache → Told → (Image → Type 0) → Type 0
+ForSession cache told P = ForSome told.files (λ from. (state : State) → KeepsState cache state from → P from)
 
 -- a session was closed: the folder is consistent, its crash word is 0, and its index has the version that is made now
 pub record EndsSession (image : Image) : Type 0 where

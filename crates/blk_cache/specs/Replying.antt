@@ -7,7 +7,8 @@ use Rattle.blk_model.specs.Bytes.{bytes_from}
 use Rattle.blk_model.specs.Effects.{object_of, stream_of}
 use Rattle.blk_model.specs.Holding.{rows}
 use Rattle.blk_model.specs.Reply.{answer_of, answered, gave}
-use Rattle.blk_model.specs.Request.{Request, to_read, to_sparse_read}
+use Rattle.blk_model.specs.Request.{Request, to_read, to_sparse_read, request_of}
+use Rattle.blk_model.specs.declared.Command.{Command}
 use Rattle.blk_model.specs.Sparse.{sparse_bytes}
 use Rattle.blk_model.specs.State.{State}
 use Rattle.blk_model.specs.Step.{step}
@@ -52,6 +53,18 @@ ForBytes cache told request number P = ForKept (HoldsState cache) told (λ state
 -- P holds of the printed rows and the line of the answer, for each state that the cache keeps
 abbrev pub ForRows : Cache → Told → Answer → (List ℕ → Type 0) → Type 0
 ForRows cache told given P = ForKept (HoldsState cache) told (λ state. P (rows_text given state))
+
+-- P holds of the printed rows alone, for each state that the cache keeps
+abbrev pub ForRowLines : Cache → Told → (List ℕ → Type 0) → Type 0
+ForRowLines cache told P = ForKept (HoldsState cache) told (λ state. P (flat_map row_line (rows state)))
+
+-- P holds of the printed reply of the command, for each state that the cache keeps and that is one after it with this answer
+abbrev pub ForReplyTo : Cache → Told → Command → Answer → (List ℕ → Type 0) → Type 0
+ForReplyTo cache told command given P = ForKept (HoldsState cache) told (λ state. IsStateAfter (request_of command) given state → P (text_of_reply (request_of command) given state))
+
+-- P holds of the line of bytes that the command reads, for each state that the cache keeps and that is one after it with `number` bytes
+abbrev pub ForBytesOf : Cache → Told → Command → (number : ℕ) → (List ℕ → Type 0) → Type 0
+ForBytesOf cache told command number P = ForKept (HoldsState cache) told (λ state. IsStateAfter (request_of command) (answer.Bytes number) state → P (bytes_text (request_of command) state))
 
 -- the cache keeps some state that is one after the request with this answer
 pub record KeepsAfter (cache : Cache) (request : Request) (given : Answer) (image : Image) : Type 0 where

@@ -10,7 +10,7 @@ use Rattle.blk_handles.specs.Bindings.{open_count}
 use Rattle.blk_cache.specs.declared.cache.Cache.{Cache}
 use Rattle.blk_cache.specs.declared.covered.Covered.{Covered}
 use Rattle.blk_cache.specs.CacheKeeping.{HoldsState, named_objects}
-use Rattle.blk_cache.specs.Covering.{AreCovered, part_count}
+use Rattle.blk_cache.specs.Covering.{AreCovered, count_in_range}
 
 -- where no part is in range, the pinned bytes and items are those of the objects that handles name, each as its main item
 pub record ArePinned (state : State) : Type 0 where
@@ -25,10 +25,15 @@ NamedObjectsArePinned = (state : State) → IsValidState state → ArePinned sta
 abbrev pub is_over : Bounds → ℕ → ℕ → ℕ → ℕ → Bool
 is_over limits open_bytes open_objects bytes more = nat_lt limits.max_bytes (open_bytes + bytes) || nat_lt limits.max_items (open_objects + more)
 
+-- something is to be added, and by the counters of the cache the open objects, the parts in range and what is added exceed a limit
+abbrev pub asks_too_much : Cache → Covered → (bytes more : ℕ) → Bool
+asks_too_much cache parts bytes more =
+    not (bytes == 0 && more == 0) && is_over (bounds_of cache.limits) (cache.open_bytes + parts.bytes) (open_count cache.handles + count_in_range parts) bytes more
+
 -- where a cache keeps a state, its counters and the parts in range decide whether there is space for so many more bytes and items
 abbrev pub RoomIsTold : Type 0
 RoomIsTold = (cache : Cache) (state : State) (image : Image) (covered : List Item) (parts : Covered) (bytes more : ℕ) → (k : HoldsState cache state image) → AreCovered state k.layout covered parts
-    → is_full (room state covered bytes more) ≡ not (bytes == 0 && more == 0) && is_over (bounds_of cache.limits) (cache.open_bytes + parts.bytes) (open_count cache.handles + part_count parts) bytes more
+    → is_full (room state covered bytes more) ≡ asks_too_much cache parts bytes more
 
 -- where there is space: nothing is evicted if nothing is added or it fits below the limits; else eviction units until what is added fits below the low
 -- watermark

@@ -1,9 +1,10 @@
 -- The live object that a request on sparse data names by a handle, or why it is refused.
 use Rattle.std.specs.Prelude.{◌≡◌, ◌≤◌, ◌<◌, ◌+◌, ℕ, [], ◌∷◌, false, is_none, nat_lt, true}
 use Rattle.std.specs.Int.{cast_unsigned, w64}
-use Rattle.std.specs.Option.{option_map_or}
+use Rattle.std.specs.Option.{option_map_or, ForSome}
 use Rattle.std.specs.declared.option.Option.{Option}
 use Rattle.std.specs.declared.option.Option.TheVariants.{None, Some}
+use Rattle.spec_image.specs.Told.{Told}
 use Rattle.blk_model.specs.Items.{main, plain, sparse}
 use Rattle.blk_model.specs.Refusals.{first_refusal, has_one_stream, is_doomed, names_none, past_end}
 use Rattle.blk_model.specs.Sizes.{largest_offset, part_size, signatures}
@@ -22,6 +23,8 @@ use Rattle.blk_sparse.specs.declared.children.Parent.{Parent}
 use Rattle.blk_cache.specs.declared.sparse_asking.AskedSparse.{AskedSparse}
 use Rattle.blk_cache.specs.declared.sparse_asking.AskedSparse.TheVariants as asked
 use Rattle.blk_cache.specs.declared.sparse_asking.PlainObject.{PlainObject}
+use Rattle.blk_cache.specs.declared.cache.Cache.{Cache}
+use Rattle.blk_cache.specs.CacheKeeping.{HoldsState}
 
 -- Refusals.
 
@@ -70,6 +73,10 @@ abbrev pub IsAskedSparse : State → Layout → (handle offset count : ℕ) → 
 IsAskedSparse state layout handle offset count (asked.Refused why) = sparse_refusal state handle offset count ≡ Some why
 IsAskedSparse state layout handle offset count (asked.Plain found) = IsPlainNamed state layout handle offset count found
 IsAskedSparse state layout handle offset count (asked.Parent parent) = IsParentNamed state layout handle offset count parent
+
+-- in each state that the cache keeps, it is the answer for this handle and this range
+abbrev pub AsksSparse : Cache → Told → (handle offset count : ℕ) → AskedSparse → Type 0
+AsksSparse cache told handle offset count answer = ForSome told.files (λ image. (state : State) → (k : HoldsState cache state image) → IsAskedSparse state k.layout handle offset count answer)
 
 -- Clauses that hold of an opaque folder too.
 

@@ -19,6 +19,8 @@ use Rattle.blk_sparse.specs.declared.children.Parent.{Parent}
 use Rattle.blk_sparse.specs.declared.measuring.Measured.{Measured}
 use Rattle.blk_sparse.specs.declared.storing.Target.{Target}
 use Rattle.blk_sparse.specs.SparseWrites.{MayGetParts, signature_to}
+use Rattle.blk_sparse.specs.Measuring.{IsMeasured}
+use Rattle.blk_sparse.specs.SparseObjects.{with_signature}
 use Rattle.blk_cache.specs.declared.cache.Cache.{Cache}
 use Rattle.blk_cache.specs.declared.sparse_asking.AskedSparse.{AskedSparse}
 use Rattle.blk_cache.specs.declared.sparse_asking.AskedSparse.TheVariants as asked
@@ -67,6 +69,10 @@ abbrev pub IsAskedTarget : State → Layout → (moment handle offset : ℕ) →
 IsAskedTarget state layout moment handle offset bytes (target.Refused why) = refused moment (to_sparse_write handle offset bytes) state ≡ Some why
 IsAskedTarget state layout moment handle offset bytes (target.Found found) = IsTargetNamed state layout moment handle offset (length bytes) found
 
+-- in each state that the cache keeps, it is the answer for this SparseWrite
+abbrev pub AsksTarget : Cache → Told → (moment handle offset : ℕ) → (bytes : List ℕ) → AskedTarget → Type 0
+AsksTarget cache told moment handle offset bytes answer = ForSome told.files (λ image. (state : State) → (k : HoldsState cache state image) → IsAskedTarget state k.layout moment handle offset bytes answer)
+
 -- in each state that the cache keeps, the handle names the object of the target
 abbrev pub NamesTarget : Cache → Told → (moment handle offset count : ℕ) → Target → Type 0
 NamesTarget cache told moment handle offset count found = ForSome told.files (λ image. (state : State) (kept : HoldsState cache state image) → IsTargetNamed state kept.layout moment handle offset count found)
@@ -88,6 +94,10 @@ abbrev pub FindsTarget : BlockFiles → (early : Option Refusal) → (offset cou
 FindsTarget files early offset count (target.Refused why) = Unit {0}
 FindsTarget files early offset count (target.Found found) = IsAmong files found × IsRangeInside early offset count
 
+-- the same by the block files and the handles of a cache
+abbrev pub FindsTargetIn : Cache → (handle offset count : ℕ) → AskedTarget → Type 0
+FindsTargetIn cache handle offset count answer = FindsTarget cache.files (early_sparse_refusal cache.handles handle offset count) offset count answer
+
 -- What is added.
 
 -- what a SparseWrite adds: the parts in range as they were measured, and the index if the object is plain
@@ -98,6 +108,22 @@ rise_of found measured = record { parts = covered_of measured; bytes = measured.
 pub record IsRise (state : State) (layout : Layout) (moment handle offset : ℕ) (bytes : List ℕ) (rise : Rise) : Type 0 where
   pub parts : AreCovered state layout (covered (to_sparse_write handle offset bytes) state) rise.parts
   pub raised : IsRaisedBy state moment handle offset bytes rise.bytes rise.items
+
+-- where the cache keeps a state in which a handle names the object of the target, at any moment, P holds
+abbrev pub WhereTarget : Cache → Told → Target → (offset count : ℕ) → Type 0 → Type 0
+WhereTarget cache told found offset count P = ForSome told.files (λ image. (state : State) (k : HoldsState cache state image) (moment handle : ℕ) → IsTargetNamed state k.layout moment handle offset count found → P)
+
+-- in each such state, `measured` is what is measured of the object as a sparse one
+abbrev pub MeasuresTarget : Cache → Told → Target → (offset count : ℕ) → Measured → Type 0
+MeasuresTarget cache told found offset count measured =
+    ForSome told.files (λ image. (state : State) (k : HoldsState cache state image) (moment handle : ℕ) → (is : IsTargetNamed state k.layout moment handle offset count found)
+    → IsMeasured k.layout (with_signature is.its.object (signature_to found)) (signature_to found) offset count measured)
+
+-- in each such state, `rise` is what so many bytes add
+abbrev pub RaisesTarget : Cache → Told → Target → (offset count : ℕ) → Rise → Type 0
+RaisesTarget cache told found offset count rise =
+    ForSome told.files (λ image. (state : State) (k : HoldsState cache state image) (moment handle : ℕ) (bytes : List ℕ) → length bytes ≡ count → IsTargetNamed state k.layout moment handle offset count found
+    → IsRise state k.layout moment handle offset bytes rise)
 
 -- the handle names an object that may get the bytes, and `rise` is what they add
 pub record IsToStore (state : State) (layout : Layout) (moment handle offset : ℕ) (bytes : List ℕ) (found : Target) (rise : Rise) : Type 0 where

@@ -1,9 +1,12 @@
 -- A SparseWrite: the precondition of its end, and how the cache counts it.
-use Rattle.std.specs.Prelude.{◌≡◌, ◌<◌, ◌≤◌, ◌+◌, ◌%◌, ◌^◌, ℕ, List, [], false, if◌then◌else◌, length, map, true}
+use Rattle.std.specs.Prelude.{◌≡◌, ◌<◌, ◌≤◌, ◌+◌, ◌%◌, ◌^◌, ℕ, List, [], false, if◌then◌else◌, length, map, true, OnOk, Result}
+use Rattle.std.specs.Option.{ForSome}
 use Rattle.std.specs.declared.option.Option.TheVariants.{None}
 use Rattle.spec_image.specs.Image.{Image}
-use Rattle.spec_image.specs.Told.{Told}
+use Rattle.spec_image.specs.Told.{Told, Passes}
+use Rattle.blk_io.specs.declared.fault.Fault.{Fault}
 use Rattle.blk_model.specs.Effects.{effect}
+use Rattle.blk_model.specs.Holding.{rest}
 use Rattle.blk_model.specs.Items.{part, plain, sparse}
 use Rattle.blk_model.specs.Refusals.{refused}
 use Rattle.blk_model.specs.Request.{Request, to_sparse_write}
@@ -13,6 +16,7 @@ use Rattle.blk_model.specs.Sparse.{covered_parts}
 use Rattle.blk_model.specs.State.{IsValidState, Object, State}
 use Rattle.spec_folder.specs.Layout.{Layout}
 use Rattle.law_state.specs.CommandStates.{with_room}
+use Rattle.law_state.specs.Changes.{Finds}
 use Rattle.law_state.specs.OneCallLaws.{Names}
 use Rattle.blk_sparse.specs.declared.measuring.Measured.{Measured}
 use Rattle.blk_sparse.specs.declared.storing.Target.{Target}
@@ -23,7 +27,7 @@ use Rattle.blk_cache.specs.declared.cache.Cache.{Cache}
 use Rattle.blk_cache.specs.declared.covered.Covered.{Covered}
 use Rattle.blk_cache.specs.declared.sparse_writing.SparseRequest.{SparseRequest}
 use Rattle.blk_cache.specs.CacheKeeping.{HoldsState}
-use Rattle.blk_cache.specs.CommandClauses.{CommandClause}
+use Rattle.blk_cache.specs.CommandClauses.{CommandClause, EndClause}
 use Rattle.blk_cache.specs.Covering.{AreCovered}
 use Rattle.blk_cache.specs.Creating.{sum_within}
 
@@ -77,6 +81,25 @@ pub record KeepsToStore (cache : Cache) (handle offset : ℕ) (bytes : List ℕ)
 abbrev pub KeepsToStoreFor : Cache → SparseRequest → Target → (more_bytes more_items : ℕ) → Image → Type 0
 KeepsToStoreFor cache request target more_bytes more_items image = KeepsToStore cache request.handle request.offset request.bytes.now target more_bytes more_items image
 
+-- a clause on the storing of the bytes: on the cache and the folder before the call, the request, its target, and the cost and the items that the bytes add
+abbrev pub StoreClause : Type 1
+StoreClause = Cache → Told → SparseRequest → Target → (more_bytes more_items : ℕ) → Type 0
+
+-- on an Ok each state that was kept, whose object may get the bytes, is kept with them
+abbrev pub StoredBy : {A : Type 0} → (new : Cache) → (now : Told) → Result A Fault → StoreClause
+StoredBy new now result cache told request target more_bytes more_items =
+    OnOk result (ForSome told.files (λ from. (state : State) → HoldsState cache state from → (can : CanStore state request.handle request.offset request.bytes.now target more_bytes more_items)
+    → ForSome now.files (HoldsState new (sparse_state state can.number can.object (signature_to target) request.offset request.bytes.now))))
+
+-- at each word of the steps that were made, the durable contents of each such state are recovered
+abbrev pub StoringBy : (now : Told) → StoreClause
+StoringBy now cache told request target more_bytes more_items =
+    ForSome told.files (λ from. (state : State) → HoldsState cache state from → CanStore state request.handle request.offset request.bytes.now target more_bytes more_items → Passes told now (Finds (rest state)))
+
+-- P holds of the storing of the bytes of a SparseWrite
+abbrev pub ForStoring : Cache → Told → SparseRequest → Target → (more_bytes more_items : ℕ) → StoreClause → Type 0
+ForStoring cache told request target more_bytes more_items P = P cache told request target more_bytes more_items
+
 -- Counters.
 
 -- by how much the cost of the main item rises when the object becomes sparse: 0 if it is sparse already
@@ -126,6 +149,10 @@ IsReadyToStoreFor cache state request target more_bytes more_items image = IsRea
 -- the cache is ready for this SparseWrite, of some state at some moment
 abbrev pub IsReadyToStoreForSome : Cache → SparseRequest → Target → (more_bytes more_items : ℕ) → Image → Type 0
 IsReadyToStoreForSome cache request target more_bytes more_items image = IsReadyToStoreSome cache request.handle request.offset request.bytes.now target more_bytes more_items image
+
+-- P holds of the end of a SparseWrite
+abbrev pub ForReadyStore : Cache → Told → SparseRequest → Target → (more_bytes more_items : ℕ) → EndClause → Type 0
+ForReadyStore cache told request target more_bytes more_items P = P (λ state image. IsReadyToStoreFor cache state request target more_bytes more_items image) told request.moment (sparse_write_of request)
 
 -- Before space is made.
 

@@ -1,23 +1,29 @@
 -- The contract of one step of a cache: a command, what it prints, and its completion marker.
-use Rattle.std.specs.Prelude.{ℕ, Bool, List, OnOk, Result, Ok, Err}
+use Rattle.std.specs.Prelude.{ℕ, Bool, List, OnOk, Result, Ok, Err, ◌≡◌, ◌+◌, ◌++◌, ◌∷◌, ◌⊎◌, [], IfOk, IfSome, is_some, position, true}
+use Rattle.std.specs.Option.{ForSome, option_map}
 use Rattle.std.specs.declared.option.Option.{Option}
 use Rattle.spec_image.specs.Image.{Image}
-use Rattle.spec_image.specs.Told.{Told}
+use Rattle.spec_image.specs.Steps.{Note}
+use Rattle.spec_image.specs.Told.{Told, Applies}
 use Rattle.blk_io.specs.Streams.{Appends}
 use Rattle.blk_io.specs.declared.fault.Damage.{Damage}
 use Rattle.blk_io.specs.declared.fault.Fault.{Fault}
 use Rattle.blk_io.specs.declared.fault.Fault.TheVariants as fault
 use Rattle.blk_model.specs.declared.Answer.{Answer}
-use Rattle.blk_model.specs.Request.{Request}
+use Rattle.blk_model.specs.Reply.{answer_of}
+use Rattle.blk_model.specs.Request.{Request, to_close}
 use Rattle.blk_model.specs.State.{State}
 use Rattle.blk_model.specs.Step.{Outcome, step}
-use Rattle.law_state.specs.Commands.{ForKept}
-use Rattle.blk_script.specs.Reply.{evicted_text}
+use Rattle.law_state.specs.Commands.{ForKept, IsNoted, IsStepped, note_number}
+use Rattle.blk_script.specs.Reply.{evicted_text, outcome_text}
+use Rattle.spec_run.specs.Progress.{NotesCommand}
+use Rattle.spec_run.specs.Run.{at_moment}
+use Rattle.spec_run.specs.Script.{is_refused}
 use Rattle.blk_cache.specs.declared.cache.Cache.{Cache}
 use Rattle.blk_cache.specs.declared.fault.StepFault.{StepFault}
 use Rattle.blk_cache.specs.declared.fault.StepFault.TheVariants as step_fault
-use Rattle.blk_cache.specs.CacheKeeping.{HoldsState}
-use Rattle.blk_cache.specs.CommandClauses.{CommandClause, SparesRefused}
+use Rattle.blk_cache.specs.CacheKeeping.{HoldsState, KeepsState}
+use Rattle.blk_cache.specs.CommandClauses.{CommandClause, SparesRefused, FlushesClean}
 use Rattle.blk_evict.specs.RoomPrinting.{PrintsInPart, PrintsUnlessFailed}
 
 -- Printed texts.
@@ -49,6 +55,14 @@ SaidBy failed_before failed written old new result cache told moment request = O
 -- a prefix of the lines of what the command evicts was printed
 abbrev pub FrontBy : {S : Type 0} → (written : S → Option (List ℕ)) → (old new : S) → CommandClause
 FrontBy written old new cache told moment request = SaysPrefix (HoldsState cache) told moment request (written old) (written new)
+
+-- the command prints nothing, whether the output failed or not
+abbrev pub PrintsNone : CommandClause
+PrintsNone cache told moment request = (failed : Bool) (written : Option (List ℕ)) → SaysEvicted cache told moment request failed failed written written
+
+-- the command has printed nothing yet
+abbrev pub PrintsNoneYet : CommandClause
+PrintsNoneYet cache told moment request = (written : Option (List ℕ)) → SaysPrefix (HoldsState cache) told moment request written written
 
 -- Where the folder failed.
 
@@ -91,3 +105,47 @@ IfStepDamaged (Err (step_fault.Damaged damage)) P = P damage
 IfStepDamaged (Err step_fault.Device) P = Unit {0}
 IfStepDamaged (Err step_fault.Sink) P = Unit {0}
 IfStepDamaged (Ok a) P = Unit {0}
+
+-- What a step does: each of these takes what it left, and is a clause on what it found, in whatever state the cache kept.
+
+-- on an Ok the answer is the model's
+abbrev pub AnsweredBy : Result Answer StepFault → CommandClause
+AnsweredBy result cache told moment request = IfOk result (λ answer. ForKept (KeepsState cache) told (λ state. answer ≡ answer_of (step state moment request).reply))
+
+-- the new cache keeps the state after the command
+abbrev pub KeptBy : (new : Cache) → (now : Told) → CommandClause
+KeptBy new now cache told moment request = ForKept (KeepsState cache) told (λ state. ForSome now.files (KeepsState new (step state moment request).state))
+
+-- the command is made in part with no note, or it is done, and the next note is the last step
+abbrev pub SteppedBy : (now : Told) → CommandClause
+SteppedBy now cache told moment request = ForKept (KeepsState cache) told (IsStepped told now moment request (note_number (cache.notes + 1)))
+
+-- the command is done, and the next note is the last step
+abbrev pub NotedBy : (now : Told) → CommandClause
+NotedBy now cache told moment request = ForKept (KeepsState cache) told (IsNoted told now moment request (note_number (cache.notes + 1)))
+
+-- where the model refuses the command, the next note is the only step
+abbrev pub RefusedBy : (now : Told) → CommandClause
+RefusedBy now cache told moment request = ForKept (KeepsState cache) told (λ state. is_refused (step state moment request) ≡ true → Applies told now (Note (note_number (cache.notes + 1)) ∷ []))
+
+-- where the command is a Flush of a clean object, the next note is the only step
+abbrev pub IdleBy : (now : Told) → CommandClause
+IdleBy now cache told moment request = ForKept (KeepsState cache) told (λ state. FlushesClean state request → Applies told now (Note (note_number (cache.notes + 1)) ∷ []))
+
+-- what the command evicts and its reply were printed
+abbrev pub WrittenBy : {S : Type 0} → (written : S → Option (List ℕ)) → (old new : S) → CommandClause
+WrittenBy written old new cache told moment request = ForKept (KeepsState cache) told (λ state. written new ≡ option_map (λ w. w ++ outcome_text (step state moment request)) (written old))
+
+-- a prefix of that was printed
+abbrev pub WritingBy : {S : Type 0} → (written : S → Option (List ℕ)) → (old new : S) → CommandClause
+WritingBy written old new cache told moment request = ForKept (KeepsState cache) told (λ state. Appends (written old) (written new) (outcome_text (step state moment request)))
+
+-- where the folder failed: nothing of the reply was printed, and no step was made of a command that the model refuses; or the command is done and noted, and
+-- the note is the only step of one that the model refuses
+abbrev pub UnansweredBy : {S : Type 0} → (now : Told) → (written : S → Option (List ℕ)) → (old new : S) → Result Answer StepFault → CommandClause
+UnansweredBy now written old new result cache told moment request =
+    IfStepDevice result (FailsBefore (KeepsState cache) told now moment request (written old) (written new) ⊎ ForKept (KeepsState cache) told (NotesCommand told now (at_moment moment request) (note_number (cache.notes + 1))))
+
+-- P holds of the Close of the least handle name that is bound, if any is
+abbrev pub ForNextClose : Cache → Told → (moment : ℕ) → CommandClause → Type 0
+ForNextClose cache told moment P = IfSome (position is_some cache.handles) (λ handle. P cache told moment (to_close handle))

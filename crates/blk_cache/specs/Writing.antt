@@ -1,5 +1,6 @@
 -- A Write: its refusals, the precondition of its end, and how the cache counts it.
 use Rattle.std.specs.Prelude.{◌≡◌, ◌<◌, ◌≤◌, ◌+◌, ◌-◌, ◌&&◌, ℕ, Bool, List, [], ◌∷◌, false, true, if◌then◌else◌, is_none, length, nat_lt}
+use Rattle.std.specs.Option.{ForSome}
 use Rattle.std.specs.declared.option.Option.{Option}
 use Rattle.std.specs.declared.option.Option.TheVariants.{None, Some}
 use Rattle.spec_image.specs.Image.{Image}
@@ -28,7 +29,7 @@ use Rattle.blk_cache.specs.declared.cache.Cache.{Cache}
 use Rattle.blk_cache.specs.declared.write.WriteRequest.{WriteRequest}
 use Rattle.blk_cache.specs.Asking.{IsNamedStream}
 use Rattle.blk_cache.specs.CacheKeeping.{HoldsState}
-use Rattle.blk_cache.specs.CommandClauses.{CommandClause}
+use Rattle.blk_cache.specs.CommandClauses.{CommandClause, EndClause}
 use Rattle.blk_cache.specs.Creating.{sum_within}
 
 -- The request.
@@ -62,6 +63,11 @@ abbrev pub IsAskedToWrite : State → Layout → (moment handle stream offset : 
 IsAskedToWrite state layout moment handle stream offset cut bytes (asked.Refused why) = refused moment (to_write handle stream offset cut bytes) state ≡ Some why
 IsAskedToWrite state layout moment handle stream offset cut bytes (asked.Stream found) = MayBeWritten state layout moment handle stream offset cut bytes found
 
+-- in each state that the cache keeps, it is the answer for a Write at any moment, cut or not
+abbrev pub AsksToWrite : Cache → Told → (handle stream offset : ℕ) → (bytes : List ℕ) → Asked → Type 0
+AsksToWrite cache told handle stream offset bytes answer =
+    ForSome told.files (λ image. (state : State) (moment : ℕ) (cut : Bool) → (k : HoldsState cache state image) → IsAskedToWrite state k.layout moment handle stream offset cut bytes answer)
+
 -- where a stream was found, no early refusal applies
 abbrev pub IsNotRefusedEarly : (early : Option Refusal) → Asked → Type 0
 IsNotRefusedEarly early (asked.Refused why) = Unit {0}
@@ -93,11 +99,15 @@ IsReadyToWriteFor cache state request size image = IsReadyToWrite cache state re
 abbrev pub IsReadyToWriteForSome : Cache → WriteRequest → (size : ℕ) → Image → Type 0
 IsReadyToWriteForSome cache request size image = IsReadyToWriteSome cache request.handle request.stream request.offset request.cut request.bytes.now size image
 
+-- P holds of the end of a Write
+abbrev pub ForReadyWrite : Cache → Told → WriteRequest → (size : ℕ) → EndClause → Type 0
+ForReadyWrite cache told request size P = P (λ state image. IsReadyToWriteFor cache state request size image) told request.moment (write_of request)
+
 -- The change.
 
 -- a state with the bytes of this Write
-abbrev pub state_written : WriteRequest → State → State
-state_written request state = written request.handle request.stream request.offset request.cut request.bytes.now state
+abbrev pub written_by : WriteRequest → State → State
+written_by request state = written request.handle request.stream request.offset request.cut request.bytes.now state
 
 -- the handle names a dirty object whose stream of `size` bytes may get the bytes: if it gets longer, the sum of costs is within the limit afterwards
 pub record CanGetBytes (state : State) (handle stream offset : ℕ) (cut : Bool) (bytes : List ℕ) (size : ℕ) : Type 0 where
@@ -123,6 +133,10 @@ CanGetFor state request size = CanGetBytes state request.handle request.stream r
 abbrev pub KeepsToWriteFor : Cache → WriteRequest → (size : ℕ) → Image → Type 0
 KeepsToWriteFor cache request size image = KeepsToWrite cache request.handle request.stream request.offset request.cut request.bytes.now size image
 
+-- P holds of each state that the cache keeps whose object may get the bytes of this Write
+abbrev pub ForCanGet : Cache → Told → WriteRequest → (size : ℕ) → (State → Type 0) → Type 0
+ForCanGet cache told request size P = ForSome told.files (λ from. (state : State) → HoldsState cache state from → CanGetFor state request size → P state)
+
 -- The access.
 
 -- the folder keeps a state (but for the counters) in which the main item of a dirty live object has this node
@@ -145,6 +159,14 @@ pub record IsUsedAndCounted (state : State) (layout : Layout) (object : Object) 
   pub counters : SameCounters from touched
   pub counted : IsRiseCounted less more touched image
   pub kept_still : KeepsUncounted (with_used state (main object.key)) layout [] image
+
+-- P holds of each dirty live object whose main item has the node that was found, unless the object that was found is doomed
+abbrev pub ForUse : Told → NamedStream → (Image → State → Layout → Object → Type 0) → Type 0
+ForUse told found P = found.doomed ≡ false → ForSome told.files (λ from. ForEachToUse found.node from (P from))
+
+-- the main item was accessed, and the counter of bytes in the index was lowered by `less` and raised by `more`
+abbrev pub UsedBy : (now : Told) → (less more : ℕ) → (from : Image) → State → Layout → Object → Type 0
+UsedBy now less more from = λ state layout object. ForSome now.files (IsUsedAndCounted state layout object less more from)
 
 -- Counters.
 

@@ -1,5 +1,5 @@
 // The command Close.
-ghost use Rattle.std.specs.Prelude.{◌≡◌, IfOk, IfSome, IsSome, IsTrue, None, Ok, OnOk, false, if◌then◌else◌, slice_set, true, ℕ};
+ghost use Rattle.std.specs.Prelude.{◌≡◌, IfOk, IfSome, IsSome, IsTrue, None, Ok, OnOk, false, slice_set, true};
 ghost use Rattle.std.specs.Option.{ForSome};
 ghost use Rattle.spec_image.specs.Told.{Stays, MayWrite};
 ghost use Rattle.blk_io.specs.Faults.{IfDamaged, IfDevice, UndamagedWhere};
@@ -9,11 +9,11 @@ ghost use Rattle.blk_disk.specs.Open.{IsOpen};
 ghost use Rattle.blk_disk.specs.Tables.{is_node_among, stands_among};
 ghost use Rattle.blk_model.specs.declared.Answer.TheVariants as answer;
 ghost use Rattle.blk_model.specs.declared.Refusal.TheVariants as refusal;
-ghost use Rattle.blk_handles.specs.Bindings.{AreShared, binding_of, is_open, open_object};
+ghost use Rattle.blk_handles.specs.Bindings.{AreShared, binding_of, is_open};
 ghost use Rattle.blk_object.specs.Ending.{Cleans, FreesAll, MayEndObject};
 ghost use Rattle.blk_object.specs.FailedChecks.{IsFailedCheck};
-ghost use Rattle.blk_cache.specs.Closing.{CountsClosed};
-ghost use Rattle.blk_cache.specs.CommandClauses.{DoneBy, ForCall, IsRefused, KeepsAny, OnlyNamesChange, SparedBy, StopsBy};
+ghost use Rattle.blk_cache.specs.Closing.{CountsClosed, released_from};
+ghost use Rattle.blk_cache.specs.CommandClauses.{DoneBy, IsRefused, KeepsAny, OnlyNamesChange, SparedBy, StopsBy, AtAnyMoment};
 
 use crate::cache::Cache;
 use blk_evict::read_charge;
@@ -32,8 +32,8 @@ impl Cache {
     /// places takes seven at most. After a fault nothing is promised of the cache but that it can be dropped.
     pub(crate) fn close<F: Folder>(&mut self, folder: &mut F, handle: u16) -> Result<Answer, Fault>
         requires is_open { ForSome (F.told folder.old).files (IsOpen self.old.files) }
-        ensures does { (moment : ℕ) → ForCall self.old (F.told folder.old) moment (to_close handle) (DoneBy self.new (F.told folder.new) result) }
-        ensures stops { (moment : ℕ) → ForCall self.old (F.told folder.old) moment (to_close handle) (StopsBy (F.told folder.new)) }
+        ensures does { AtAnyMoment self.old (F.told folder.old) (to_close handle) (DoneBy self.new (F.told folder.new) result) }
+        ensures stops { AtAnyMoment self.old (F.told folder.old) (to_close handle) (StopsBy (F.told folder.new)) }
 
         // A name that is free is refused on every folder, and a refusal does nothing.
         ensures refuses { binding_of self.old.handles handle ≡ None → result ≡ Ok (answer.Refused refusal.BadHandle) }
@@ -43,7 +43,7 @@ impl Cache {
         // One that is bound is free then, on every folder, and the other names are bound as before.
         ensures frees { IsSome (binding_of self.old.handles handle) → OnOk result (self.new.handles ≡ slice_set self.old.handles handle None) }
 
-        ensures spares { (moment : ℕ) → ForCall self.old (F.told folder.old) moment (to_close handle) (SparedBy (F.told folder.new) result) }
+        ensures spares { AtAnyMoment self.old (F.told folder.old) (to_close handle) (SparedBy (F.told folder.new) result) }
         ensures is_open { ForSome (F.told folder.new).files (IsOpen self.new.files) }
         ensures notes { self.new.notes ≡ self.old.notes }
         ensures mark { self.new.mark ≡ self.old.mark }
@@ -72,7 +72,7 @@ impl Cache {
     fn release(&mut self, handle: u16) -> Released
         requires bound { IsSome (binding_of self.old.handles handle) }
         ensures frees { self.new.handles ≡ slice_set self.old.handles handle None }
-        ensures answer { IfSome (binding_of self.old.handles handle) (λ object. result ≡ (if is_open self.new.handles object.entry then Released.More else Released.Last (open_object self.old.handles object))) }
+        ensures answer { IfSome (binding_of self.old.handles handle) (λ object. result ≡ released_from self.old.handles self.new.handles object) }
         ensures charged { self.new.open_bytes ≡ self.old.open_bytes }
         ensures others { OnlyNamesChange self.old self.new }
         ensures shared { AreShared self.new.handles }

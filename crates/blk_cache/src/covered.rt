@@ -1,6 +1,6 @@
 // The parts in range of a command.
 ghost use Rattle.std.specs.Prelude.{◌≡◌};
-ghost use Rattle.blk_cache.specs.Covering.{covers, no_parts, one_if_some, part_count};
+ghost use Rattle.blk_cache.specs.Covering.{covers, none_in_range, one_if_some, count_in_range};
 
 use blk_addr::Addr;
 
@@ -17,7 +17,7 @@ pub(crate) struct Covered {
 impl Covered {
     /// No part is in range.
     pub(crate) fn none() -> Covered
-        ensures { result ≡ no_parts }
+        ensures { result ≡ none_in_range }
     {
         Covered {
             first: None,
@@ -35,7 +35,7 @@ impl Covered {
 
     /// How many parts in range exist.
     pub(crate) fn count(&self) -> u64
-        ensures { result ≡ part_count self.now }
+        ensures { result ≡ count_in_range self.now }
     {
         one_if_some(&self.first) + one_if_some(&self.second)
     }

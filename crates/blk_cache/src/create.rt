@@ -1,25 +1,23 @@
 // A new object in a cache.
-ghost use Rattle.std.specs.Prelude.{◌≡◌, ◌≤◌, ◌<◌, ℕ, Bool, IfOk, IfSome, List, None, Ok, OnOk, Option, Some, false, length, true};
+ghost use Rattle.std.specs.Prelude.{◌≡◌, ◌≤◌, ◌<◌, ℕ, IfOk, IfSome, None, Ok, OnOk, Option, Some, false, length, true};
 ghost use Rattle.std.specs.Option.{ForSome};
 ghost use Rattle.spec_image.specs.Told.{Stays, Told, MayWrite, ReadsOnly};
-ghost use Rattle.blk_io.specs.Faults.{IfDamaged, IfDevice, UndamagedWhere};
+ghost use Rattle.blk_io.specs.Faults.{IfDamaged, IfDevice, UndamagedWhere, OkFor};
 ghost use Rattle.blk_io.specs.Streams.{GoesOn};
-ghost use Rattle.blk_model.specs.Refusals.{no_room, refused};
+ghost use Rattle.blk_model.specs.Refusals.{refused};
 ghost use Rattle.blk_model.specs.Request.{to_create};
 ghost use Rattle.blk_model.specs.Sizes.{handle_names, longest_key};
-ghost use Rattle.blk_model.specs.State.{State};
 ghost use Rattle.blk_model.specs.declared.Answer.TheVariants as answer;
-ghost use Rattle.blk_model.specs.declared.Refusal.TheVariants as refusal;
 ghost use Rattle.blk_disk.specs.Open.{IsOpen};
 ghost use Rattle.blk_handles.specs.Bindings.{binding_of};
-ghost use Rattle.law_state.specs.Commands.{Does, MayStopAtEach};
+ghost use Rattle.law_state.specs.Commands.{MayStopAtEach};
 ghost use Rattle.blk_object.specs.FailedChecks.{IsFailedCheck};
 ghost use Rattle.blk_cache.specs.CacheKeeping.{HoldsState};
 ghost use Rattle.blk_cache.specs.CommandClauses.{DoneBy, ForCall, IsRefused, KeepsAny, SparedBy, StopsBy, UndamagedBy, open_refusal};
-ghost use Rattle.blk_cache.specs.Creating.{IsNotRefused, WantsRoomAlone, WhereNotRefused, WhereWantsRoom, create_refusal};
+ghost use Rattle.blk_cache.specs.Creating.{WhereNotRefused, WhereWantsRoom, AnswersFull, DecidesCreate, ForCreates, ForWantingRoom, NeverRefused};
 ghost use Rattle.blk_evict.specs.Looking.{IsLookUpDamage};
 ghost use Rattle.blk_evict.specs.RoomPrinting.{FailsWhereItRose};
-ghost use Rattle.blk_cache.specs.Stepping.{FrontBy, SaidBy, SaysEvicted, SaysPrefix};
+ghost use Rattle.blk_cache.specs.Stepping.{FrontBy, SaidBy, PrintsNone, PrintsNoneYet};
 
 use crate::cache::Cache;
 use crate::covered::Covered;
@@ -126,13 +124,13 @@ impl Cache {
     // Whether there is no space for a new object with a key, by what is kept in memory.
     fn has_no_room(&self, key: &[u8]) -> bool
         // Where a Create needs nothing but space it is refused then, and a refusal does and prints nothing.
-        ensures does { result ≡ true → (told : Told) (moment handle : ℕ) → WantsRoomAlone self.now told moment handle key.now → Does (HoldsState self.now) (HoldsState self.now) told told moment (to_create handle key.now) (answer.Refused refusal.Full) }
-        ensures says { result ≡ true → (told : Told) (moment handle : ℕ) → WantsRoomAlone self.now told moment handle key.now → (failed : Bool) (written : Option (List ℕ)) → SaysEvicted self.now told moment (to_create handle key.now) failed failed written written }
+        ensures does { result ≡ true → ForWantingRoom self.now key.now AnswersFull }
+        ensures says { result ≡ true → ForWantingRoom self.now key.now PrintsNone }
         ensures stops { (told : Told) (moment handle : ℕ) → MayStopAtEach (HoldsState self.now) told told moment (to_create handle key.now) }
-        ensures front { (told : Told) (moment handle : ℕ) (written : Option (List ℕ)) → SaysPrefix (HoldsState self.now) told moment (to_create handle key.now) written written }
+        ensures front { ForCreates self.now key.now PrintsNoneYet }
 
         // Else it isn't refused.
-        ensures passes { result ≡ false → (told : Told) (moment handle : ℕ) → WantsRoomAlone self.now told moment handle key.now → IsNotRefused self.now told moment handle key.now }
+        ensures passes { result ≡ false → ForWantingRoom self.now key.now NeverRefused }
     {
         self.is_full(key.len() as u64, 1, &Covered::none())
     }
@@ -186,7 +184,7 @@ impl Cache {
         handle: u16,
         key: &[u8],
     ) -> Result<Option<Refusal>, Fault>
-        ensures refused { IfOk result (λ early. ForSome (F.told folder.old).files (λ image. (state : State) (moment : ℕ) → HoldsState self.now state image → refused moment (to_create handle key.now) state ≡ create_refusal early (no_room moment (to_create handle key.now) state))) }
+        ensures refused { OkFor result (F.told folder.old) (DecidesCreate self.now handle key.now) }
 
         // A refusal that the handles and the key alone decide is given on every folder; where none is given they decide none.
         ensures refuses { IfSome (open_refusal self.now.handles handle key.now) (λ why. result ≡ Ok (Some why)) }

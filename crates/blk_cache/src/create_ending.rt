@@ -1,23 +1,18 @@
 // The end of a Create: its object is made, and bound to the handle.
 ghost use Rattle.std.specs.Prelude.{◌≡◌, ◌≤◌, ◌<◌, IfOk, IsTrue, None, OnOk, Some, length, slice_set, true};
 ghost use Rattle.std.specs.Option.{ForSome};
-ghost use Rattle.spec_image.specs.Told.{Passes, MayWrite};
+ghost use Rattle.spec_image.specs.Told.{MayWrite};
 ghost use Rattle.blk_io.specs.Faults.{IfDamaged, IfDevice, UndamagedWhere};
 ghost use Rattle.blk_model.specs.Effects.{created};
-ghost use Rattle.blk_model.specs.Holding.{rest};
-ghost use Rattle.blk_model.specs.Request.{to_create};
 ghost use Rattle.blk_model.specs.Sizes.{handle_names, longest_key};
-ghost use Rattle.blk_model.specs.State.{State};
 ghost use Rattle.blk_model.specs.declared.Answer.TheVariants as answer;
 ghost use Rattle.blk_disk.specs.Open.{IsOpen};
 ghost use Rattle.blk_disk.specs.Tables.{is_node_among, is_record_among};
 ghost use Rattle.blk_handles.specs.Bindings.{AreShared, binding_for, binding_of, open_with};
-ghost use Rattle.law_state.specs.Changes.{Finds};
-ghost use Rattle.law_state.specs.Commands.{IsDone, MayStop};
 ghost use Rattle.blk_object.specs.FailedChecks.{IsFailedCheck};
-ghost use Rattle.blk_object.specs.Making.{CanHaveNew};
-ghost use Rattle.blk_cache.specs.CacheKeeping.{HoldsState};
-ghost use Rattle.blk_cache.specs.Creating.{CountsOneMore, HasRoomFor, IsReadyForSome, IsReadyToCreate, KeepsWithRoom};
+ghost use Rattle.blk_cache.specs.Creating.{CountsOneMore, IsReadyForSome, KeepsWithRoom, ForCanHave, ForHasRoom, ForReadyCreate};
+ghost use Rattle.blk_sparse.specs.Clauses.{Recovers};
+ghost use Rattle.blk_cache.specs.CommandClauses.{EndedBy, EndingBy, KeptAs};
 
 use crate::cache::Cache;
 use blk_addr::Addr;
@@ -42,8 +37,8 @@ impl Cache {
         requires is_open { ForSome (F.told folder.old).files (IsOpen self.old.files) }
 
         // The Create is done, whatever state it began with, and after each single write the folder is as a crash in it may leave it.
-        ensures does { IfOk result (λ answer. ForSome (F.told folder.old).files (λ from. (state : State) → IsReadyToCreate self.old state moment handle key.now from → IsDone (HoldsState self.new) (F.told folder.new) moment (to_create handle key.now) answer state)) }
-        ensures stops { ForSome (F.told folder.old).files (λ from. (state : State) → IsReadyToCreate self.old state moment handle key.now from → Passes (F.told folder.old) (F.told folder.new) (MayStop state moment (to_create handle key.now))) }
+        ensures does { ForReadyCreate self.old (F.told folder.old) moment handle key.now (EndedBy self.new (F.told folder.new) result) }
+        ensures stops { ForReadyCreate self.old (F.told folder.old) moment handle key.now (EndingBy (F.told folder.new)) }
 
         ensures done { IfOk result (λ given. given ≡ answer.Done) }
         ensures notes { self.new.notes ≡ self.old.notes }
@@ -76,10 +71,10 @@ impl Cache {
         requires is_open { ForSome (F.told folder.old).files (IsOpen self.old.files) }
 
         // In the end each state that was kept, that has space for the object, is kept with it.
-        ensures made { OnOk result (ForSome (F.told folder.old).files (λ from. (state : State) → HoldsState self.old state from → HasRoomFor state handle key.now → ForSome (F.told folder.new).files (HoldsState self.new (created handle key.now state)))) }
+        ensures made { OnOk result (ForHasRoom self.old (F.told folder.old) handle key.now (KeptAs self.new (F.told folder.new) (created handle key.now))) }
 
         // At each word the old durable contents are recovered.
-        ensures stops { ForSome (F.told folder.old).files (λ from. (state : State) → HoldsState self.old state from → CanHaveNew state handle key.now → Passes (F.told folder.old) (F.told folder.new) (Finds (rest state))) }
+        ensures stops { ForCanHave self.old (F.told folder.old) handle key.now (Recovers (F.told folder.old) (F.told folder.new)) }
 
         ensures notes { self.new.notes ≡ self.old.notes }
         ensures mark { self.new.mark ≡ self.old.mark }

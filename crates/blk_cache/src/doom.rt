@@ -1,5 +1,5 @@
 // The command Doom.
-ghost use Rattle.std.specs.Prelude.{◌≡◌, ℕ, IfOk, IfSome, IsTrue, Ok, OnOk};
+ghost use Rattle.std.specs.Prelude.{◌≡◌, IfOk, IfSome, IsTrue, Ok, OnOk};
 ghost use Rattle.std.specs.Option.{ForSome};
 ghost use Rattle.spec_image.specs.Told.{Stays, MayWrite, ForTold};
 ghost use Rattle.blk_io.specs.Faults.{IfDamaged, IfDevice, UndamagedWhere};
@@ -8,7 +8,7 @@ ghost use Rattle.blk_model.specs.declared.Answer.TheVariants as answer;
 ghost use Rattle.blk_disk.specs.Open.{IsOpen};
 ghost use Rattle.blk_disk.specs.Tables.{is_node_among, is_record_among};
 ghost use Rattle.blk_object.specs.FailedChecks.{IsFailedCheck};
-ghost use Rattle.blk_cache.specs.CommandClauses.{DoneBy, ForCall, IsRefused, KeepsAny, SparedBy, StopsBy};
+ghost use Rattle.blk_cache.specs.CommandClauses.{DoneBy, IsRefused, KeepsAny, SparedBy, StopsBy, AtAnyMoment};
 ghost use Rattle.blk_cache.specs.Dooming.{CacheDoomedBy, CacheDoomingBy, CacheUndamagedAt, CountsDoomed, ForEachOpen, doom_refusal};
 
 use crate::cache::Cache;
@@ -27,15 +27,15 @@ impl Cache {
     /// more for each further one. After a fault nothing is promised of the cache but that it can be dropped.
     pub(crate) fn doom<F: Folder>(&mut self, folder: &mut F, handle: u16) -> Result<Answer, Fault>
         requires is_open { ForSome (F.told folder.old).files (IsOpen self.old.files) }
-        ensures does { (moment : ℕ) → ForCall self.old (F.told folder.old) moment (to_doom handle) (DoneBy self.new (F.told folder.new) result) }
-        ensures stops { (moment : ℕ) → ForCall self.old (F.told folder.old) moment (to_doom handle) (StopsBy (F.told folder.new)) }
+        ensures does { AtAnyMoment self.old (F.told folder.old) (to_doom handle) (DoneBy self.new (F.told folder.new) result) }
+        ensures stops { AtAnyMoment self.old (F.told folder.old) (to_doom handle) (StopsBy (F.told folder.new)) }
 
         // A refusal that the handles alone decide is given on every folder, and a refusal does nothing.
         ensures refuses { IfSome (doom_refusal self.old.handles handle) (λ why. result ≡ Ok (answer.Refused why)) }
         ensures quiet { IfOk result (λ answer. IsRefused answer → Stays (F.told folder.old) (F.told folder.new)) }
         ensures unchanged { IfOk result (λ answer. IsRefused answer → self.new ≡ self.old) }
 
-        ensures spares { (moment : ℕ) → ForCall self.old (F.told folder.old) moment (to_doom handle) (SparedBy (F.told folder.new) result) }
+        ensures spares { AtAnyMoment self.old (F.told folder.old) (to_doom handle) (SparedBy (F.told folder.new) result) }
         ensures is_open { ForSome (F.told folder.new).files (IsOpen self.new.files) }
         ensures notes { self.new.notes ≡ self.old.notes }
         ensures mark { self.new.mark ≡ self.old.mark }

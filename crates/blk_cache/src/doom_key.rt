@@ -1,5 +1,5 @@
 // The command DoomKey.
-ghost use Rattle.std.specs.Prelude.{◌≡◌, ◌≤◌, ℕ, IfOk, IfSome, IsTrue, Ok, OnOk, length};
+ghost use Rattle.std.specs.Prelude.{◌≡◌, ◌≤◌, IfOk, IfSome, IsTrue, Ok, OnOk, length};
 ghost use Rattle.std.specs.Option.{ForSome};
 ghost use Rattle.spec_image.specs.Told.{Stays, MayWrite, ForTold};
 ghost use Rattle.blk_io.specs.Faults.{IfDamaged, IfDevice, UndamagedWhere};
@@ -12,7 +12,7 @@ ghost use Rattle.spec_format.specs.Address.{blocks_256, kind_of};
 ghost use Rattle.blk_disk.specs.Open.{IsOpen};
 ghost use Rattle.blk_disk.specs.Tables.{is_node_among, stands_among};
 ghost use Rattle.blk_object.specs.FailedChecks.{IsFailedCheck};
-ghost use Rattle.blk_cache.specs.CommandClauses.{DoneBy, ForCall, IsRefused, KeepsAny, SparedBy, StopsBy};
+ghost use Rattle.blk_cache.specs.CommandClauses.{DoneBy, IsRefused, KeepsAny, SparedBy, StopsBy, AtAnyMoment};
 ghost use Rattle.blk_cache.specs.Dooming.{CacheDoomedBy, CacheDoomingBy, CacheUndamagedAt, ForEachKept};
 
 use crate::cache::Cache;
@@ -32,15 +32,15 @@ impl Cache {
         key: &[u8],
     ) -> Result<Answer, Fault>
         requires is_open { ForSome (F.told folder.old).files (IsOpen self.old.files) }
-        ensures does { (moment : ℕ) → ForCall self.old (F.told folder.old) moment (to_doom_key key.now) (DoneBy self.new (F.told folder.new) result) }
-        ensures stops { (moment : ℕ) → ForCall self.old (F.told folder.old) moment (to_doom_key key.now) (StopsBy (F.told folder.new)) }
+        ensures does { AtAnyMoment self.old (F.told folder.old) (to_doom_key key.now) (DoneBy self.new (F.told folder.new) result) }
+        ensures stops { AtAnyMoment self.old (F.told folder.old) (to_doom_key key.now) (StopsBy (F.told folder.new)) }
 
         // A key that is none is refused on every folder, and a refusal does nothing.
         ensures refuses { IsTrue (no_key key.now) → result ≡ Ok (answer.Refused refusal.BadKey) }
         ensures quiet { IfOk result (λ answer. IsRefused answer → Stays (F.told folder.old) (F.told folder.new)) }
         ensures unchanged { IfOk result (λ answer. IsRefused answer → self.new ≡ self.old) }
 
-        ensures spares { (moment : ℕ) → ForCall self.old (F.told folder.old) moment (to_doom_key key.now) (SparedBy (F.told folder.new) result) }
+        ensures spares { AtAnyMoment self.old (F.told folder.old) (to_doom_key key.now) (SparedBy (F.told folder.new) result) }
         ensures is_open { ForSome (F.told folder.new).files (IsOpen self.new.files) }
         ensures notes { self.new.notes ≡ self.old.notes }
         ensures mark { self.new.mark ≡ self.old.mark }

@@ -1,24 +1,19 @@
 // A live object is doomed in a folder.
-ghost use Rattle.std.specs.Prelude.{◌≡◌, ◌≤◌, ℕ, IfOk, IfSome, IsTrue, List, OnOk, Some, false, length, true};
+ghost use Rattle.std.specs.Prelude.{◌≡◌, ◌≤◌, IfOk, IfSome, IsTrue, OnOk, Some, false, length, true};
 ghost use Rattle.std.specs.Option.{ForSome};
-ghost use Rattle.spec_image.specs.Told.{Passes, MayWrite, ReadsOnly, ForTold};
-ghost use Rattle.blk_io.specs.Faults.{IfDamaged, IfDevice, OpaqueIfDamaged, UndamagedWhere};
+ghost use Rattle.spec_image.specs.Told.{MayWrite, ReadsOnly, ForTold};
+ghost use Rattle.blk_io.specs.Faults.{IfDamaged, IfDevice, UndamagedWhere, OkFor};
 ghost use Rattle.blk_model.specs.Effects.{doomed};
 ghost use Rattle.blk_model.specs.Sizes.{longest_key};
-ghost use Rattle.blk_model.specs.State.{State};
 ghost use Rattle.spec_format.specs.Address.{blocks_256, kind_of};
 ghost use Rattle.spec_format.specs.Names.{longest_name};
-ghost use Rattle.spec_folder.specs.Layout.{Layout};
 ghost use Rattle.blk_disk.specs.Open.{IsOpen};
 ghost use Rattle.blk_disk.specs.Tables.{is_node_among, is_record_among, stands_among};
-ghost use Rattle.law_state.specs.Changes.{SameSession};
-ghost use Rattle.law_state.specs.Keeping.{KeepsUncounted};
 ghost use Rattle.blk_object.specs.FailedChecks.{IsFailedCheck};
-ghost use Rattle.blk_object.specs.RemovingObjects.{FindsEither};
-ghost use Rattle.blk_cache.specs.DoomingObjects.{DoomedBy, DoomingBy, ForEachDoomTarget, ForEachOpenAt, ForEachWithKey, IsDoomTarget, UndamagedAt, has_index};
+ghost use Rattle.blk_cache.specs.DoomingObjects.{DoomedBy, DoomingBy, ForEachDoomTarget, ForEachOpenAt, ForEachWithKey, UndamagedAt, has_index, FindsDoomTarget, ForEachUnheld};
 ghost use Rattle.blk_evict.specs.Looking.{IsLookUpDamage, KeepsSomeState};
 ghost use Rattle.blk_evict.specs.NameBuffer.{name_buffer_len};
-ghost use Rattle.blk_sparse.specs.Parents.{ForEachParent, IsGoneWhole, IsGroupTold};
+ghost use Rattle.blk_sparse.specs.Clauses.{GoesWhole, GroupGone, MaybeDoomed, SessionStays, Undamaged};
 
 use blk_addr::Addr;
 use blk_chain::{Found, find};
@@ -48,7 +43,7 @@ pub fn find_target<F: Folder>(
     files: &BlockFiles,
     key: &[u8],
 ) -> Result<Option<Target>, Fault>
-    ensures target { IfOk result (λ answer. ForSome (F.told folder.old).files (λ image. (state : State) (layout : Layout) (unlinked : List ℕ) → KeepsUncounted state layout unlinked image → IsDoomTarget state layout key.now answer)) }
+    ensures target { OkFor result (F.told folder.old) (FindsDoomTarget key.now) }
     ensures node { IfOk result (λ answer. IfSome answer (λ target. IsTrue (is_node_among files.now target.node))) }
     ensures kind { IfOk result (λ answer. IfSome answer (λ target. kind_of target.found.entry ≡ blocks_256)) }
     ensures stands { IfOk result (λ answer. IfSome answer (λ target. IsTrue (stands_among files.now target.found.entry))) }
@@ -244,13 +239,13 @@ fn remove_with_index<F: Folder>(
     requires short { length key.now ≤ longest_key }
     requires buffer { longest_name ≤ length buffer.old }
     requires is_open { ForSome (F.told folder.old).files (IsOpen files.now) }
-    ensures removed { OnOk result (ForSome (F.told folder.old).files (λ from. ForEachParent key.now node found.now.entry found.now.before from (λ state layout unlinked number object. ForSome (F.told folder.new).files (IsGoneWhole state layout unlinked number object)))) }
-    ensures gone { IfOk result (λ gone. ForSome (F.told folder.old).files (λ from. ForEachParent key.now node found.now.entry found.now.before from (λ state layout unlinked number object. IsGroupTold state layout key.now gone))) }
-    ensures session { OnOk result (ForSome (F.told folder.old).files (λ from. ForEachParent key.now node found.now.entry found.now.before from (λ state layout unlinked number object. ForSome (F.told folder.new).files (SameSession from)))) }
-    ensures stops { ForSome (F.told folder.old).files (λ from. ForEachParent key.now node found.now.entry found.now.before from (λ state layout unlinked number object. Passes (F.told folder.old) (F.told folder.new) (FindsEither state (doomed number state (Some object))))) }
+    ensures removed { OnOk result (ForTold (F.told folder.old) (ForEachUnheld key.now node found.now) (GoesWhole (F.told folder.new))) }
+    ensures gone { IfOk result (λ gone. ForTold (F.told folder.old) (ForEachUnheld key.now node found.now) (GroupGone key.now gone)) }
+    ensures session { OnOk result (ForTold (F.told folder.old) (ForEachUnheld key.now node found.now) (SessionStays (F.told folder.new))) }
+    ensures stops { ForTold (F.told folder.old) (ForEachUnheld key.now node found.now) (MaybeDoomed (F.told folder.old) (F.told folder.new)) }
     ensures is_open { ForSome (F.told folder.new).files (IsOpen files.now) }
     ensures damaged { IfDamaged result (IsFailedCheck files.now (F.told folder.new)) }
-    ensures untold { ForSome (F.told folder.old).files (λ from. ForEachParent key.now node found.now.entry found.now.before from (λ state layout unlinked number object. OpaqueIfDamaged result (F.told folder.old))) }
+    ensures untold { ForTold (F.told folder.old) (ForEachUnheld key.now node found.now) (Undamaged result (F.told folder.old)) }
     ensures writes { MayWrite F.told F.faults folder.old folder.new (IfDevice result) }
 {
     let owned = read_owned(folder, files, found.entry)?;

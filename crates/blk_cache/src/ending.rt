@@ -11,7 +11,7 @@ ghost use Rattle.blk_disk.specs.Open.{IsOpen};
 ghost use Rattle.blk_repair.specs.Counters.{crash_place};
 ghost use Rattle.blk_cache.specs.BoundNames.{AreAllFree};
 ghost use Rattle.blk_cache.specs.CacheKeeping.{KeepsState};
-ghost use Rattle.blk_cache.specs.Opening.{EndsSession};
+ghost use Rattle.blk_cache.specs.Opening.{EndsSession, ForSession};
 
 use crate::cache::Cache;
 use blk_index::set_word;
@@ -35,12 +35,12 @@ impl Cache {
         requires is_open { ForSome (F.told f.old).files (IsOpen self.files) }
 
         // In the end the folder is consistent, no session is open, and the index has the version that is made now.
-        ensures ended { OnOk result (ForSome (F.told f.old).files (λ from. (state : State) → KeepsState self state from → ForSome (F.told f.new).files EndsSession)) }
+        ensures ended { OnOk result (ForSession self (F.told f.old) (λ from. ForSome (F.told f.new).files EndsSession)) }
         ensures steps { OnOk result (Applies (F.told f.old) (F.told f.new) (word_step index crash_place 0)) }
         ensures prefix { AppliesPrefix (F.told f.old) (F.told f.new) (word_step index crash_place 0) }
 
         // Before and after the step recovery gives the same.
-        ensures stops { ForSome (F.told f.old).files (λ from. (state : State) → KeepsState self state from → PassesAny (F.told f.old) (F.told f.new) (HoldsStill from)) }
+        ensures stops { ForSession self (F.told f.old) (λ from. PassesAny (F.told f.old) (F.told f.new) (HoldsStill from)) }
 
         ensures later { F.faults f.old ≤ F.faults f.new }
         ensures failed { OnErr result (Rises (F.faults f.old) (F.faults f.new)) }

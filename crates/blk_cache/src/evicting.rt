@@ -1,16 +1,14 @@
 // Eviction units are removed until a goal is met.
-ghost use Rattle.std.specs.Prelude.{◌≡◌, ◌+◌, [], ◌∷◌, IfOk, IsTrue, OnOk, true};
+ghost use Rattle.std.specs.Prelude.{◌≡◌, IfOk, IsTrue, OnOk, true};
 ghost use Rattle.std.specs.Option.{ForSome};
-ghost use Rattle.spec_image.specs.Told.{Passes, MayWrite};
+ghost use Rattle.spec_image.specs.Told.{MayWrite, ForTold};
 ghost use Rattle.blk_io.specs.Faults.{IfDamaged, IfDevice, UndamagedWhere};
 ghost use Rattle.blk_io.specs.Streams.{GoesOn};
-ghost use Rattle.blk_model.specs.Room.{without};
 ghost use Rattle.blk_disk.specs.Open.{IsOpen};
 ghost use Rattle.blk_disk.specs.Tables.{is_node_among, is_record_among};
 ghost use Rattle.blk_object.specs.FailedChecks.{IsFailedCheck};
-ghost use Rattle.blk_object.specs.RemovingObjects.{FindsEither};
 ghost use Rattle.blk_cache.specs.Covering.{KeepsCovered};
-ghost use Rattle.blk_cache.specs.Evicting.{BegunBy, EvictedBy, EvictingBy, ForEachThatMayGo, ForGoal, ForUnit, KeepsInPlaces, KeepsThatMayGo, OnlyItemsChange, PrintedBy, count_of_groups};
+ghost use Rattle.blk_cache.specs.Evicting.{BegunBy, EvictedBy, EvictingBy, ForEachThatMayGo, ForGoal, ForUnit, KeepsThatMayGo, OnlyItemsChange, PrintedBy, count_of_groups, CountedBy, RemovingBy, UnitEvictedBy};
 ghost use Rattle.blk_evict.specs.RoomPrinting.{FailsWhereItRose};
 
 use crate::cache::Cache;
@@ -74,7 +72,7 @@ impl Cache {
     ) -> Result<(), Fault>
         requires is_open { ForSome (F.told folder.old).files (IsOpen self.old.files) }
         ensures evicted { OnOk result (ForGoal self.old parts.now (F.told folder.old) goal.now (EvictedBy self.new (F.told folder.new))) }
-        ensures counts { OnOk result (ForGoal self.old parts.now (F.told folder.old) goal.now (λ state groups. self.old.items ≡ self.new.items + count_of_groups groups)) }
+        ensures counts { OnOk result (ForGoal self.old parts.now (F.told folder.old) goal.now (CountedBy self.old self.new)) }
         ensures prints { OnOk result (ForGoal self.old parts.now (F.told folder.old) goal.now (PrintedBy failed.old failed.new K.written out.old out.new)) }
         ensures stops { ForGoal self.old parts.now (F.told folder.old) goal.now (EvictingBy (F.told folder.old) (F.told folder.new)) }
         ensures front { ForGoal self.old parts.now (F.told folder.old) goal.now (BegunBy K.written out.old out.new) }
@@ -115,9 +113,9 @@ impl Cache {
         requires is_open { ForSome (F.told folder.old).files (IsOpen self.old.files) }
 
         // Where it may be evicted in a state that was kept, that is kept without its eviction unit.
-        ensures evicted { OnOk result (ForSome (F.told folder.old).files (λ from. ForEachThatMayGo self.old found.now from (λ state layout group. ForSome (F.told folder.new).files (KeepsInPlaces self.new (without (group ∷ []) state) layout)))) }
+        ensures evicted { OnOk result (ForTold (F.told folder.old) (ForEachThatMayGo self.old found.now) (UnitEvictedBy self.new (F.told folder.new))) }
         ensures prints { OnOk result (ForUnit self.old found.now (F.told folder.old) (PrintedBy failed.old failed.new K.written out.old out.new)) }
-        ensures stops { ForSome (F.told folder.old).files (λ from. ForEachThatMayGo self.old found.now from (λ state layout group. Passes (F.told folder.old) (F.told folder.new) (FindsEither state (without (group ∷ []) state)))) }
+        ensures stops { ForUnit self.old found.now (F.told folder.old) (RemovingBy (F.told folder.old) (F.told folder.new)) }
         ensures front { ForUnit self.old found.now (F.told folder.old) (BegunBy K.written out.old out.new) }
         ensures quiet { failed.old ≡ true → (failed.new ≡ true) × (K.written out.new ≡ K.written out.old) }
         ensures fails { FailsWhereItRose failed.old failed.new (K.faults out.old) (K.faults out.new) }

@@ -1,5 +1,5 @@
 // The command Flush.
-ghost use Rattle.std.specs.Prelude.{◌≡◌, ℕ, IfOk, IfSome, Ok};
+ghost use Rattle.std.specs.Prelude.{◌≡◌, IfOk, IfSome, Ok};
 ghost use Rattle.std.specs.Option.{ForSome};
 ghost use Rattle.spec_image.specs.Told.{Stays, MayWrite};
 ghost use Rattle.blk_io.specs.Faults.{IfDamaged, IfDevice, UndamagedWhere};
@@ -7,7 +7,7 @@ ghost use Rattle.blk_model.specs.Request.{to_flush};
 ghost use Rattle.blk_model.specs.declared.Answer.TheVariants as answer;
 ghost use Rattle.blk_disk.specs.Open.{IsOpen};
 ghost use Rattle.blk_object.specs.FailedChecks.{IsFailedCheck};
-ghost use Rattle.blk_cache.specs.CommandClauses.{DoneBy, ForCall, IsRefused, KeepsAny, SparedBy, StaysIfClean, StopsBy};
+ghost use Rattle.blk_cache.specs.CommandClauses.{DoneBy, IsRefused, KeepsAny, SparedBy, StaysIfClean, StopsBy, AtAnyMoment};
 ghost use Rattle.blk_cache.specs.Dooming.{doom_refusal};
 
 use crate::cache::Cache;
@@ -23,8 +23,8 @@ impl Cache {
     /// that it can be dropped.
     pub(crate) fn flush<F: Folder>(&mut self, folder: &mut F, handle: u16) -> Result<Answer, Fault>
         requires is_open { ForSome (F.told folder.old).files (IsOpen self.old.files) }
-        ensures does { (moment : ℕ) → ForCall self.old (F.told folder.old) moment (to_flush handle) (DoneBy self.new (F.told folder.new) result) }
-        ensures stops { (moment : ℕ) → ForCall self.old (F.told folder.old) moment (to_flush handle) (StopsBy (F.told folder.new)) }
+        ensures does { AtAnyMoment self.old (F.told folder.old) (to_flush handle) (DoneBy self.new (F.told folder.new) result) }
+        ensures stops { AtAnyMoment self.old (F.told folder.old) (to_flush handle) (StopsBy (F.told folder.new)) }
 
         // A refusal that the handles alone decide is given on every folder, and a refusal does nothing.
         ensures refuses { IfSome (doom_refusal self.old.handles handle) (λ why. result ≡ Ok (answer.Refused why)) }
@@ -34,7 +34,7 @@ impl Cache {
         // A Flush of a clean object does nothing either.
         ensures idle { StaysIfClean self.old (F.told folder.old) (F.told folder.new) (to_flush handle) }
 
-        ensures spares { (moment : ℕ) → ForCall self.old (F.told folder.old) moment (to_flush handle) (SparedBy (F.told folder.new) result) }
+        ensures spares { AtAnyMoment self.old (F.told folder.old) (to_flush handle) (SparedBy (F.told folder.new) result) }
         ensures is_open { ForSome (F.told folder.new).files (IsOpen self.new.files) }
         ensures notes { self.new.notes ≡ self.old.notes }
         ensures mark { self.new.mark ≡ self.old.mark }

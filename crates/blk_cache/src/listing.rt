@@ -1,20 +1,16 @@
 // The command List, and the rows that it shows.
-ghost use Rattle.std.specs.Prelude.{ℕ, IfOk, OnOk};
-ghost use Rattle.std.specs.List.{flat_map};
+ghost use Rattle.std.specs.Prelude.{IfOk, OnOk};
 ghost use Rattle.spec_image.specs.Told.{ReadsOnly};
 ghost use Rattle.blk_io.specs.Faults.{IfDamaged, IfDevice, IsShort, UndamagedWhere};
 ghost use Rattle.blk_io.specs.Streams.{GoesOn};
 ghost use Rattle.blk_io.specs.declared.folder.FileId.TheVariants as names;
-ghost use Rattle.blk_model.specs.Holding.{rows};
 ghost use Rattle.blk_model.specs.Request.{to_list};
-ghost use Rattle.blk_script.specs.Reply.{row_line};
-ghost use Rattle.law_state.specs.Commands.{ForKept};
 ghost use Rattle.blk_object.specs.FailedChecks.{IsFailedCheck};
-ghost use Rattle.blk_cache.specs.CacheKeeping.{HoldsState};
-ghost use Rattle.blk_cache.specs.CommandClauses.{DoneBy, ForCall, IsRefused, KeepsAny};
+ghost use Rattle.blk_cache.specs.CommandClauses.{DoneBy, IsRefused, KeepsAny, AtAnyMoment};
 ghost use Rattle.blk_cache.specs.Listing.{OnlyRoomChanges};
 ghost use Rattle.blk_cache.specs.Stepping.{Puts, PutsPart};
 ghost use Rattle.blk_evict.specs.RoomPrinting.{FailsWhereItRose};
+ghost use Rattle.blk_cache.specs.Replying.{ForRowLines};
 
 use crate::cache::Cache;
 use blk_index::word;
@@ -26,7 +22,7 @@ use blk_record::IndexHead;
 impl Cache {
     /// How many items the LRU list has, by one folder call. Nothing is written, and nothing is refused.
     pub(crate) fn list<F: Folder>(&self, folder: &mut F) -> Result<Answer, Fault>
-        ensures does { (moment : ℕ) → ForCall self.now (F.told folder.old) moment to_list (DoneBy self.now (F.told folder.new) result) }
+        ensures does { AtAnyMoment self.now (F.told folder.old) to_list (DoneBy self.now (F.told folder.new) result) }
         ensures reads { ReadsOnly F.told F.faults folder.old folder.new (IfDevice result) }
         ensures passes { IfOk result (λ given. IsRefused given → ⊥) }
 
@@ -50,8 +46,8 @@ impl Cache {
         out: &mut K,
         failed: &mut bool,
     ) -> Result<(), Fault>
-        ensures printed { OnOk result (ForKept (HoldsState self.old) (F.told folder.old) (λ state. Puts failed.old failed.new K.written out.old out.new (flat_map row_line (rows state)))) }
-        ensures part { ForKept (HoldsState self.old) (F.told folder.old) (λ state. PutsPart failed.old K.written out.old out.new (flat_map row_line (rows state))) }
+        ensures printed { OnOk result (ForRowLines self.old (F.told folder.old) (Puts failed.old failed.new K.written out.old out.new)) }
+        ensures part { ForRowLines self.old (F.told folder.old) (PutsPart failed.old K.written out.old out.new) }
         ensures failed { FailsWhereItRose failed.old failed.new (K.faults out.old) (K.faults out.new) }
         ensures others { OnlyRoomChanges self.old self.new }
         ensures reads { ReadsOnly F.told F.faults folder.old folder.new (IfDevice result) }

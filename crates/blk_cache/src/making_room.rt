@@ -1,21 +1,18 @@
 // Space is made.
-ghost use Rattle.std.specs.Prelude.{◌≡◌, ◌≤◌, ◌&&◌, ◌||◌, ◌==◌, [], IfOk, None, OnErr, OnOk, false, true};
-ghost use Rattle.spec_image.specs.Image.{Image};
+ghost use Rattle.std.specs.Prelude.{◌≡◌, ◌≤◌, ◌&&◌, ◌||◌, ◌==◌, [], IfOk, None, OnErr, OnOk, true};
 ghost use Rattle.std.specs.Option.{ForSome};
 ghost use Rattle.spec_image.specs.Told.{Rises, Stays, MayWrite};
 ghost use Rattle.blk_io.specs.Faults.{IfDamaged, IfDevice, UndamagedWhere};
 ghost use Rattle.blk_io.specs.Streams.{GoesOn};
-ghost use Rattle.blk_model.specs.Refusals.{is_full as is_full_room};
-ghost use Rattle.blk_model.specs.Room.{fits, room};
-ghost use Rattle.blk_model.specs.State.{State};
+ghost use Rattle.blk_model.specs.Room.{fits};
 ghost use Rattle.blk_disk.specs.Open.{IsOpen};
 ghost use Rattle.law_state.specs.Commands.{ForKept};
 ghost use Rattle.blk_object.specs.FailedChecks.{IsFailedCheck};
 ghost use Rattle.blk_cache.specs.CacheKeeping.{HoldsState};
-ghost use Rattle.blk_cache.specs.CommandClauses.{KeepsAny};
+ghost use Rattle.blk_cache.specs.CommandClauses.{KeepsAny, ForAnyKept};
 ghost use Rattle.blk_cache.specs.Covering.{ForCovered, KeepsCovered};
 ghost use Rattle.blk_cache.specs.Evicting.{BegunBy, EvictedBy, EvictingBy, OnlyItemsChange, PrintedBy};
-ghost use Rattle.blk_cache.specs.MakingRoom.{ForMaking, ForMakingBeside, ForRoom, says_full};
+ghost use Rattle.blk_cache.specs.MakingRoom.{ForMaking, ForUnits, ForRoom, says_full, HasSpace, TellsFull};
 ghost use Rattle.blk_evict.specs.RoomPrinting.{FailsWhereItRose};
 
 use crate::cache::Cache;
@@ -48,9 +45,9 @@ impl Cache {
         requires is_open { ForSome (F.told folder.old).files (IsOpen self.old.files) }
 
         // There is no space exactly where the model has none; then nothing is done.
-        ensures full { IfOk result (λ answer. ForKept (HoldsState self.old) (F.told folder.old) (λ state. says_full answer ≡ is_full_room (room state [] bytes items))) }
+        ensures full { IfOk result (λ answer. ForKept (HoldsState self.old) (F.told folder.old) (λ state. TellsFull bytes items answer state [])) }
         ensures stays { IfOk result (λ answer. says_full answer ≡ true → Stays (F.told folder.old) (F.told folder.new)) }
-        ensures tried { OnErr result (ForKept (HoldsState self.old) (F.told folder.old) (λ state. is_full_room (room state [] bytes items) ≡ false)) }
+        ensures tried { OnErr result (ForKept (HoldsState self.old) (F.told folder.old) (λ state. HasSpace bytes items state [])) }
         ensures unchanged { IfOk result (λ answer. says_full answer ≡ true → self.new ≡ self.old) }
         ensures unprinted { IfOk result (λ answer. says_full answer ≡ true → K.written out.new ≡ K.written out.old) }
 
@@ -98,19 +95,19 @@ impl Cache {
         requires is_open { ForSome (F.told folder.old).files (IsOpen self.old.files) }
 
         // There is no space exactly where the model has none; then nothing is done.
-        ensures full { IfOk result (λ answer. ForCovered self.old parts.now (F.told folder.old) (λ state covered. says_full answer ≡ is_full_room (room state covered bytes items))) }
+        ensures full { IfOk result (λ answer. ForCovered self.old parts.now (F.told folder.old) (TellsFull bytes items answer)) }
         ensures stays { IfOk result (λ answer. says_full answer ≡ true → Stays (F.told folder.old) (F.told folder.new)) }
-        ensures tried { OnErr result (ForCovered self.old parts.now (F.told folder.old) (λ state covered. is_full_room (room state covered bytes items) ≡ false)) }
+        ensures tried { OnErr result (ForCovered self.old parts.now (F.told folder.old) (HasSpace bytes items)) }
         ensures unchanged { IfOk result (λ answer. says_full answer ≡ true → self.new ≡ self.old) }
         ensures unprinted { IfOk result (λ answer. says_full answer ≡ true → K.written out.new ≡ K.written out.old) }
 
         // Each state that was kept is kept without what is evicted for it, and that is printed.
-        ensures made { OnOk result (ForMakingBeside self.old parts.now (F.told folder.old) bytes items (EvictedBy self.new (F.told folder.new))) }
-        ensures prints { OnOk result (ForMakingBeside self.old parts.now (F.told folder.old) bytes items (PrintedBy failed.old failed.new K.written out.old out.new)) }
+        ensures made { OnOk result (ForUnits self.old parts.now (F.told folder.old) bytes items (EvictedBy self.new (F.told folder.new))) }
+        ensures prints { OnOk result (ForUnits self.old parts.now (F.told folder.old) bytes items (PrintedBy failed.old failed.new K.written out.old out.new)) }
 
         // At each word a prefix of what is evicted is out; on any answer a prefix of its text was printed.
-        ensures stops { ForMakingBeside self.old parts.now (F.told folder.old) bytes items (EvictingBy (F.told folder.old) (F.told folder.new)) }
-        ensures front { ForMakingBeside self.old parts.now (F.told folder.old) bytes items (BegunBy K.written out.old out.new) }
+        ensures stops { ForUnits self.old parts.now (F.told folder.old) bytes items (EvictingBy (F.told folder.old) (F.told folder.new)) }
+        ensures front { ForUnits self.old parts.now (F.told folder.old) bytes items (BegunBy K.written out.old out.new) }
 
         // Where the output failed before nothing is printed.
         ensures quiet { failed.old ≡ true → (failed.new ≡ true) × (K.written out.new ≡ K.written out.old) }
@@ -182,7 +179,7 @@ impl Cache {
 
     // Whether nothing is evicted for so many more bytes and items: nothing is asked for, or they fit.
     fn wants_none(&self, bytes: u64, items: u64) -> bool
-        ensures none { (state : State) (image : Image) → HoldsState self.now state image → result ≡ ((bytes == 0 && items == 0) || fits state.limits.max_bytes bytes items state) }
+        ensures none { ForAnyKept self.now (λ state. result ≡ ((bytes == 0 && items == 0) || fits state.limits.max_bytes bytes items state)) }
     {
         if asks_nothing(bytes, items) {
             return true;

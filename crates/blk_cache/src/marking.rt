@@ -1,16 +1,14 @@
 // An open object becomes dirty, or clean.
-ghost use Rattle.std.specs.Prelude.{◌≡◌, IfSome, IsSome, OnOk, not, true};
+ghost use Rattle.std.specs.Prelude.{◌≡◌, IfSome, IsSome, OnOk, true};
 ghost use Rattle.std.specs.Option.{ForSome};
-ghost use Rattle.spec_image.specs.Told.{Passes, Stays, MayWrite};
+ghost use Rattle.spec_image.specs.Told.{Stays, MayWrite, ForTold};
 ghost use Rattle.blk_io.specs.Faults.{IfDamaged, IfDevice, UndamagedWhere};
 ghost use Rattle.law_folder.specs.CommandLaws.{marked};
 ghost use Rattle.blk_disk.specs.Open.{IsOpen};
 ghost use Rattle.blk_handles.specs.Bindings.{binding_of};
 ghost use Rattle.blk_object.specs.FailedChecks.{IsFailedCheck};
-ghost use Rattle.blk_object.specs.RemovingObjects.{FindsEither};
-ghost use Rattle.blk_cache.specs.CacheKeeping.{HoldsState};
 ghost use Rattle.blk_cache.specs.CommandClauses.{KeepsAny, OnlyNamesChange};
-ghost use Rattle.blk_cache.specs.Marking.{ForEachNamed, dirty_word};
+ghost use Rattle.blk_cache.specs.Marking.{ForEachNamed, dirty_word, MarkedBy, MarkingBy};
 
 use crate::cache::Cache;
 use blk_io::{Fault, Folder};
@@ -31,10 +29,10 @@ impl Cache {
         requires is_open { ForSome (F.told folder.old).files (IsOpen self.old.files) }
 
         // In the end each state that was kept is kept with its object dirty, or clean.
-        ensures marked { OnOk result (ForSome (F.told folder.old).files (λ from. ForEachNamed self.old handle from (λ state number object. ForSome (F.told folder.new).files (HoldsState self.new (marked state number object (not dirty)))))) }
+        ensures marked { OnOk result (ForTold (F.told folder.old) (ForEachNamed self.old handle) (MarkedBy self.new (F.told folder.new) dirty)) }
 
         // At each word the old durable contents are recovered, or the new ones.
-        ensures stops { ForSome (F.told folder.old).files (λ from. ForEachNamed self.old handle from (λ state number object. Passes (F.told folder.old) (F.told folder.new) (FindsEither state (marked state number object (not dirty))))) }
+        ensures stops { ForTold (F.told folder.old) (ForEachNamed self.old handle) (MarkingBy (F.told folder.old) (F.told folder.new) dirty) }
 
         // Where the object is dirty or clean as asked already, no call is made.
         ensures idle { IfSome (binding_of self.old.handles handle) (λ binding. binding.dirty ≡ dirty → Stays (F.told folder.old) (F.told folder.new)) }

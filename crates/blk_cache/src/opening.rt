@@ -7,9 +7,9 @@ ghost use Rattle.spec_format.specs.Headers.{HasWholeIndex, IsUnfinished};
 ghost use Rattle.blk_io.specs.Faults.{IfDamaged, IfDevice, damage_of, OpaqueIfDamaged, UndamagedWhere};
 ghost use Rattle.blk_index.specs.Start.{IsFinished};
 ghost use Rattle.blk_disk.specs.Open.{IsOpen};
-ghost use Rattle.blk_repair.specs.Repair.{IsRepairable, NeedsOnlyWords};
+ghost use Rattle.blk_repair.specs.Repair.{IsRepairable};
 ghost use Rattle.blk_scan.specs.Scans.{StandAmong};
-ghost use Rattle.blk_cache.specs.Opened.{FromEach, IsJustMade, IsOpenedAs, IsOpeningDamage, MadeBy, MendedBy, MendingBy, OpenedBy};
+ghost use Rattle.blk_cache.specs.Opened.{FromEach, IsJustMade, IsOpenedAs, IsOpeningDamage, MadeBy, MendedBy, MendingBy, OpenedBy, MadeByWords};
 ghost use Rattle.blk_cache.specs.Opening.{IfOpenDamaged, IfOpenDevice, IfOpenMemory, OpensFolder, OpensOrBreaksOff, WasMadeAt};
 
 use crate::fault::OpenFault;
@@ -92,8 +92,8 @@ fn open_finished<F: Folder>(alloc: Global, folder: &mut F) -> Result<Opened, Ope
     ensures stops { ForSome (F.told folder.old).files (λ from. IsFinished from → OpensOrBreaksOff from (F.told folder.old) (F.told folder.new)) }
     ensures last { OnOk result (ForSome (F.told folder.old).files (λ from. IsFinished from → OpensFolder from (F.told folder.old) (F.told folder.new))) }
     ensures damaged { IfOpenDamaged result (IsOpeningDamage (F.told folder.new)) }
-    ensures first { IfOpenDamaged result (λ damage. ForSome (F.told folder.old).files (λ from. IsFinished from → first_damage from ≡ Some (damage_of damage))) }
-    ensures unwritten { ForSome (F.told folder.old).files (λ from. IsFinished from → (IsWellFormed from → ⊥) → Stays (F.told folder.old) (F.told folder.new)) }
+    ensures first { IfOpenDamaged result (λ damage. FromEach (F.told folder.old) IsFinished (λ from. first_damage from ≡ Some (damage_of damage))) }
+    ensures unwritten { FromEach (F.told folder.old) IsFinished (λ from. (IsWellFormed from → ⊥) → Stays (F.told folder.old) (F.told folder.new)) }
     ensures memory { IfOpenMemory result (Stays (F.told folder.old) (F.told folder.new)) }
     ensures writes { MayWrite F.told F.faults folder.old folder.new (IfOpenDevice result) }
 {
@@ -125,7 +125,7 @@ fn mend<F: Folder>(folder: &mut F, files: BlockFiles, scan: &Scan) -> Result<Ope
     requires stand { StandAmong files scan.now }
     requires is_open { ForSome (F.told folder.old).files (IsOpen files) }
     ensures opened { IfOk result (λ opened. FromEach (F.told folder.old) (IsRepairable scan.now) (OpenedBy (F.told folder.new) opened)) }
-    ensures made { OnOk result (FromEach (F.told folder.old) (IsRepairable scan.now) (λ from. NeedsOnlyWords scan.now from → MadeBy (F.told folder.new) from)) }
+    ensures made { OnOk result (FromEach (F.told folder.old) (IsRepairable scan.now) (MadeByWords scan.now (F.told folder.new))) }
     ensures stops { FromEach (F.told folder.old) (IsRepairable scan.now) (MendingBy (F.told folder.old) (F.told folder.new)) }
     ensures last { OnOk result (FromEach (F.told folder.old) (IsRepairable scan.now) (MendedBy (F.told folder.old) (F.told folder.new))) }
     ensures damaged { IfDamaged result (IsOpeningDamage (F.told folder.new)) }

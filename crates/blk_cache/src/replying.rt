@@ -12,7 +12,7 @@ ghost use Rattle.blk_script.specs.Reply.{reply_text};
 ghost use Rattle.blk_cache.specs.CommandClauses.{KeepsAny};
 ghost use Rattle.blk_cache.specs.Listing.{OnlyRoomChanges};
 ghost use Rattle.blk_evict.specs.RoomPrinting.{FailsWhereItRose};
-ghost use Rattle.blk_cache.specs.Replying.{ForBytes, ForReply, ForRows, KeepsAfter};
+ghost use Rattle.blk_cache.specs.Replying.{ForRows, KeepsAfter, ForBytesOf, ForReplyTo};
 ghost use Rattle.blk_cache.specs.Stepping.{Puts, PutsPart};
 
 use crate::cache::Cache;
@@ -35,8 +35,8 @@ impl Cache {
         answer: &Answer,
     ) -> Result<(), Fault>
         requires is_open { ForSome (F.told folder.old).files (IsOpen self.old.files) }
-        ensures printed { OnOk result (ForReply self.old (F.told folder.old) (request_of command.now) answer.now (Puts failed.old failed.new K.written out.old out.new)) }
-        ensures part { ForReply self.old (F.told folder.old) (request_of command.now) answer.now (PutsPart failed.old K.written out.old out.new) }
+        ensures printed { OnOk result (ForReplyTo self.old (F.told folder.old) command.now answer.now (Puts failed.old failed.new K.written out.old out.new)) }
+        ensures part { ForReplyTo self.old (F.told folder.old) command.now answer.now (PutsPart failed.old K.written out.old out.new) }
         ensures failed { FailsWhereItRose failed.old failed.new (K.faults out.old) (K.faults out.new) }
         ensures others { OnlyRoomChanges self.old self.new }
         ensures reads { ReadsOnly F.told F.faults folder.old folder.new (IfDevice result) }
@@ -66,8 +66,8 @@ impl Cache {
         number: u64,
     ) -> Result<(), Fault>
         requires is_open { ForSome (F.told folder.old).files (IsOpen self.old.files) }
-        ensures printed { OnOk result (ForBytes self.old (F.told folder.old) (request_of command.now) number (Puts failed.old failed.new K.written out.old out.new)) }
-        ensures part { ForBytes self.old (F.told folder.old) (request_of command.now) number (PutsPart failed.old K.written out.old out.new) }
+        ensures printed { OnOk result (ForBytesOf self.old (F.told folder.old) command.now number (Puts failed.old failed.new K.written out.old out.new)) }
+        ensures part { ForBytesOf self.old (F.told folder.old) command.now number (PutsPart failed.old K.written out.old out.new) }
         ensures failed { FailsWhereItRose failed.old failed.new (K.faults out.old) (K.faults out.new) }
         ensures others { OnlyRoomChanges self.old self.new }
         ensures reads { ReadsOnly F.told F.faults folder.old folder.new (IfDevice result) }

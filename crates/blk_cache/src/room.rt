@@ -1,15 +1,10 @@
 // Whether there is space below the limits.
-ghost use Rattle.std.specs.Prelude.{◌≡◌, ◌&&◌, ◌+◌, ◌<◌, ◌==◌, ◌^◌, List, nat_le, nat_lt, not};
-ghost use Rattle.spec_image.specs.Image.{Image};
-ghost use Rattle.blk_model.specs.Items.{Item};
+ghost use Rattle.std.specs.Prelude.{◌≡◌, ◌&&◌, ◌+◌, ◌<◌, ◌==◌, ◌^◌, nat_le, nat_lt};
 ghost use Rattle.blk_model.specs.Refusals.{is_full};
 ghost use Rattle.blk_model.specs.Room.{fits, low, room};
-ghost use Rattle.blk_model.specs.State.{State};
-ghost use Rattle.blk_model.specs.Bounds.{bounds_of};
-ghost use Rattle.blk_handles.specs.Bindings.{open_count};
-ghost use Rattle.blk_cache.specs.CacheKeeping.{HoldsState};
-ghost use Rattle.blk_cache.specs.Covering.{AreCovered, part_count};
-ghost use Rattle.blk_cache.specs.RoomTold.{is_over};
+ghost use Rattle.blk_cache.specs.Covering.{ForAnyCovered};
+ghost use Rattle.blk_cache.specs.RoomTold.{asks_too_much};
+ghost use Rattle.blk_cache.specs.CommandClauses.{ForAnyKept};
 
 use crate::cache::Cache;
 use crate::covered::Covered;
@@ -21,14 +16,14 @@ impl Cache {
     /// Whether there is no space for so many more bytes and items: some are to be added, and the open objects, the parts in
     /// range and what is added exceed a limit.
     pub(crate) fn is_full(&self, bytes: u64, items: u64, parts: &Covered) -> bool
-        ensures full { (state : State) (image : Image) (kept : HoldsState self.now state image) (covered : List Item) → AreCovered state kept.layout covered parts.now → result ≡ is_full (room state covered bytes items) }
+        ensures full { ForAnyCovered self.now parts.now (λ state covered. result ≡ is_full (room state covered bytes items)) }
     {
         self.asks_too_much(bytes, items, parts)
     }
 
     // Whether something is to be added, and the open objects, the parts in range and what is added exceed a limit.
     fn asks_too_much(&self, bytes: u64, items: u64, parts: &Covered) -> bool
-        ensures { result ≡ (not (bytes == 0 && items == 0) && is_over (bounds_of self.now.limits) (self.now.open_bytes + parts.now.bytes) (open_count self.now.handles + part_count parts.now) bytes items) }
+        ensures { result ≡ asks_too_much self.now parts.now bytes items }
     {
         if bytes == 0 && items == 0 {
             return false;
@@ -41,7 +36,7 @@ impl Cache {
 
     /// Whether so many more bytes and items fit below the limits.
     pub(crate) fn fits(&self, bytes: u64, items: u64) -> bool
-        ensures fits { (state : State) (image : Image) → HoldsState self.now state image → result ≡ fits state.limits.max_bytes bytes items state }
+        ensures fits { ForAnyKept self.now (λ state. result ≡ fits state.limits.max_bytes bytes items state) }
     {
         let most = self.limits.max_bytes;
         self.fits_below(most, bytes, items)
@@ -49,7 +44,7 @@ impl Cache {
 
     /// Whether enough items are evicted for so many more bytes and items: they fit below the low watermark.
     pub(crate) fn is_enough(&self, bytes: u64, items: u64) -> bool
-        ensures enough { (state : State) (image : Image) → HoldsState self.now state image → result ≡ fits (low state) bytes items state }
+        ensures enough { ForAnyKept self.now (λ state. result ≡ fits (low state) bytes items state) }
     {
         let most = self.limits.max_bytes;
         self.fits_below(most - most / FREE_SHARE, bytes, items)
@@ -58,7 +53,7 @@ impl Cache {
     // Whether with what is added there are no more bytes than `most`, and no more items than the limit.
     fn fits_below(&self, most: u64, bytes: u64, items: u64) -> bool
         requires small { most < 2 ^ 63 }
-        ensures { (state : State) (image : Image) → HoldsState self.now state image → result ≡ fits most bytes items state }
+        ensures { ForAnyKept self.now (λ state. result ≡ fits most bytes items state) }
     {
         let most_items = u64::from(self.limits.max_items);
         is_within(self.bytes, bytes, most) && is_within(self.items, items, most_items)

@@ -1,18 +1,14 @@
 // The last item of the LRU list that isn't pinned.
-ghost use Rattle.std.specs.Prelude.{◌≡◌, ◌||◌, IfOk, IfSome, IsTrue, List, None};
+ghost use Rattle.std.specs.Prelude.{◌≡◌, ◌||◌, IfOk, IfSome, IsTrue, None};
 ghost use Rattle.std.specs.Option.{ForSome};
 ghost use Rattle.spec_image.specs.Told.{ReadsOnly};
-ghost use Rattle.blk_io.specs.Faults.{IfDamaged, IfDevice, UndamagedWhere};
-ghost use Rattle.blk_model.specs.Items.{Item};
-ghost use Rattle.blk_model.specs.State.{State};
+ghost use Rattle.blk_io.specs.Faults.{IfDamaged, IfDevice, UndamagedWhere, OkFor};
 ghost use Rattle.blk_disk.specs.Tables.{is_node_among, is_record_among};
 ghost use Rattle.blk_handles.specs.Bindings.{is_open};
 ghost use Rattle.blk_object.specs.FailedChecks.{IsFailedCheck};
 ghost use Rattle.blk_object.specs.ListWalks.{WalkEnds};
-ghost use Rattle.blk_cache.specs.CacheKeeping.{HoldsState};
-ghost use Rattle.blk_cache.specs.Covering.{LieCovered, covers};
-ghost use Rattle.blk_evict.specs.ListPlaces.{IsLast, IsPinnedFrom};
-ghost use Rattle.blk_cache.specs.RoomSearch.{KeepsPinnedFrom};
+ghost use Rattle.blk_cache.specs.Covering.{covers};
+ghost use Rattle.blk_cache.specs.RoomSearch.{KeepsPinnedFrom, FindsLast};
 
 use crate::cache::Cache;
 use crate::covered::Covered;
@@ -34,7 +30,7 @@ impl Cache {
         parts: &Covered,
     ) -> Result<Option<Unpinned>, Fault>
         requires stands { IfSome behind (λ node. IsTrue (is_node_among self.now.files node)) }
-        ensures last { IfOk result (λ found. ForSome (F.told folder.old).files (λ image. (state : State) (kept : HoldsState self.now state image) (covered : List Item) → LieCovered state kept.layout covered parts.now → IsPinnedFrom state kept.layout covered behind → IsLast state kept.layout covered found)) }
+        ensures last { OkFor result (F.told folder.old) (FindsLast self.now parts.now behind) }
 
         // On every folder none is found only where the list ends.
         ensures ends { IfOk result (λ found. found ≡ None → ForSome (F.told folder.old).files (WalkEnds self.now.files NodeView.PREV behind)) }

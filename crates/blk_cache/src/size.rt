@@ -1,12 +1,12 @@
 // The command Size.
-ghost use Rattle.std.specs.Prelude.{◌≡◌, ℕ, IfSome, Ok};
+ghost use Rattle.std.specs.Prelude.{◌≡◌, IfSome, Ok};
 ghost use Rattle.spec_image.specs.Told.{ReadsOnly};
 ghost use Rattle.blk_io.specs.Faults.{IfDamaged, IfDevice, UndamagedWhere};
 ghost use Rattle.blk_model.specs.Request.{to_size};
 ghost use Rattle.blk_model.specs.declared.Answer.TheVariants as answer;
 ghost use Rattle.blk_object.specs.FailedChecks.{IsFailedCheck};
 ghost use Rattle.blk_cache.specs.Asking.{IsAskDamage, early_stream_refusal};
-ghost use Rattle.blk_cache.specs.CommandClauses.{DoneBy, ForCall, KeepsAny};
+ghost use Rattle.blk_cache.specs.CommandClauses.{DoneBy, KeepsAny, AtAnyMoment};
 
 use crate::asking::Asked;
 use crate::cache::Cache;
@@ -24,7 +24,7 @@ impl Cache {
         handle: u16,
         stream: u8,
     ) -> Result<Answer, Fault>
-        ensures does { (moment : ℕ) → ForCall self.now (F.told folder.old) moment (to_size handle stream) (DoneBy self.now (F.told folder.new) result) }
+        ensures does { AtAnyMoment self.now (F.told folder.old) (to_size handle stream) (DoneBy self.now (F.told folder.new) result) }
         ensures reads { ReadsOnly F.told F.faults folder.old folder.new (IfDevice result) }
 
         // A refusal that the handles and the stream alone decide is given on every folder.

@@ -3,9 +3,9 @@ ghost use Rattle.std.specs.Prelude.{◌≡◌, ◌&&◌, ◌==◌, IfOk, IfSome,
 ghost use Rattle.spec_image.specs.Told.{ReadsOnly};
 ghost use Rattle.blk_io.specs.Faults.{IfDamaged, IfDevice, UndamagedWhere};
 ghost use Rattle.blk_object.specs.FailedChecks.{IsFailedCheck};
-ghost use Rattle.blk_cache.specs.SparseAsking.{FindsInside, IsAmongFiles, IsAskedSparse, early_sparse_refusal};
+ghost use Rattle.blk_cache.specs.SparseAsking.{FindsInside, IsAmongFiles, early_sparse_refusal, AsksSparse};
 ghost use Rattle.blk_cache.specs.declared.sparse_asking.AskedSparse.TheVariants as asked;
-ghost use Rattle.blk_cache.specs.CommandClauses.{ForLayout, KeepsAny};
+ghost use Rattle.blk_cache.specs.CommandClauses.{KeepsAny};
 
 use crate::cache::Cache;
 use blk_addr::Addr;
@@ -50,7 +50,7 @@ impl Cache {
         offset: u64,
         count: u64,
     ) -> Result<AskedSparse, Fault>
-        ensures asked { IfOk result (λ answer. ForLayout self.now (F.told folder.old) (λ state layout. IsAskedSparse state layout handle offset count answer)) }
+        ensures asked { IfOk result (AsksSparse self.now (F.told folder.old) handle offset count) }
         ensures early { IfSome (early_sparse_refusal self.now.handles handle offset count) (λ why. result ≡ Ok (asked.Refused why)) }
 
         // On every folder.

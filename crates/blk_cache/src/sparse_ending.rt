@@ -1,20 +1,16 @@
 // The end of a SparseWrite: its object is dirty, and then the bytes are stored and counted.
 ghost use Rattle.std.specs.Prelude.{◌≡◌, ◌≤◌, ◌<◌, ◌+◌, IfOk, IsSome, OnOk, length};
 ghost use Rattle.std.specs.Option.{ForSome};
-ghost use Rattle.spec_image.specs.Told.{Passes, MayWrite};
+ghost use Rattle.spec_image.specs.Told.{MayWrite};
 ghost use Rattle.blk_io.specs.Faults.{IfDamaged, IfDevice, UndamagedWhere};
-ghost use Rattle.blk_model.specs.Holding.{rest};
 ghost use Rattle.blk_model.specs.Sizes.{largest_offset, part_size, signatures};
-ghost use Rattle.blk_model.specs.State.{State};
 ghost use Rattle.blk_model.specs.declared.Answer.TheVariants as answer;
 ghost use Rattle.blk_disk.specs.Open.{IsOpen};
 ghost use Rattle.blk_handles.specs.Bindings.{binding_of};
-ghost use Rattle.law_state.specs.Changes.{Finds};
-ghost use Rattle.law_state.specs.Commands.{IsDone, MayStop};
 ghost use Rattle.blk_object.specs.FailedChecks.{IsFailedCheck};
-ghost use Rattle.blk_sparse.specs.SparseWrites.{signature_to, sparse_state};
-ghost use Rattle.blk_cache.specs.CacheKeeping.{HoldsState};
-ghost use Rattle.blk_cache.specs.SparseWriting.{CanStore, CountsParts, IsReadyToStoreFor, IsReadyToStoreForSome, KeepsToStoreFor, own_target, sparse_write_of};
+ghost use Rattle.blk_sparse.specs.SparseWrites.{signature_to};
+ghost use Rattle.blk_cache.specs.SparseWriting.{CountsParts, IsReadyToStoreForSome, KeepsToStoreFor, own_target, ForReadyStore, ForStoring, StoredBy, StoringBy};
+ghost use Rattle.blk_cache.specs.CommandClauses.{EndedBy, EndingBy};
 
 use crate::cache::Cache;
 use crate::sparse_writing::SparseRequest;
@@ -45,8 +41,8 @@ impl Cache {
         requires is_open { ForSome (F.told folder.old).files (IsOpen self.old.files) }
 
         // The SparseWrite is done, whatever state it began with, and after each single write the folder is as a crash in it may leave it.
-        ensures does { IfOk result (λ answer. ForSome (F.told folder.old).files (λ from. (state : State) → IsReadyToStoreFor self.old state request.now target.now more_bytes more_items from → IsDone (HoldsState self.new) (F.told folder.new) request.now.moment (sparse_write_of request.now) answer state)) }
-        ensures stops { ForSome (F.told folder.old).files (λ from. (state : State) → IsReadyToStoreFor self.old state request.now target.now more_bytes more_items from → Passes (F.told folder.old) (F.told folder.new) (MayStop state request.now.moment (sparse_write_of request.now))) }
+        ensures does { ForReadyStore self.old (F.told folder.old) request.now target.now more_bytes more_items (EndedBy self.new (F.told folder.new) result) }
+        ensures stops { ForReadyStore self.old (F.told folder.old) request.now target.now more_bytes more_items (EndingBy (F.told folder.new)) }
 
         ensures wrote { IfOk result (λ given. given ≡ answer.Wrote (length request.now.bytes.now)) }
         ensures notes { self.new.notes ≡ self.old.notes }
@@ -78,10 +74,10 @@ impl Cache {
         requires is_open { ForSome (F.told folder.old).files (IsOpen self.old.files) }
 
         // In the end each state that was kept, whose object can get them, is kept with them, and with its items in front.
-        ensures stored { OnOk result (ForSome (F.told folder.old).files (λ from. (state : State) → HoldsState self.old state from → (can : CanStore state request.now.handle request.now.offset request.now.bytes.now target.now more_bytes more_items) → ForSome (F.told folder.new).files (HoldsState self.new (sparse_state state can.number can.object (signature_to target.now) request.now.offset request.now.bytes.now)))) }
+        ensures stored { ForStoring self.old (F.told folder.old) request.now target.now more_bytes more_items (StoredBy self.new (F.told folder.new) result) }
 
         // At each word the old durable contents are recovered.
-        ensures stops { ForSome (F.told folder.old).files (λ from. (state : State) → HoldsState self.old state from → CanStore state request.now.handle request.now.offset request.now.bytes.now target.now more_bytes more_items → Passes (F.told folder.old) (F.told folder.new) (Finds (rest state))) }
+        ensures stops { ForStoring self.old (F.told folder.old) request.now target.now more_bytes more_items (StoringBy (F.told folder.new)) }
 
         ensures notes { self.new.notes ≡ self.old.notes }
         ensures mark { self.new.mark ≡ self.old.mark }

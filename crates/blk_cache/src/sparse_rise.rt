@@ -1,19 +1,15 @@
 // What a SparseWrite adds, measured before space is made for it.
-ghost use Rattle.std.specs.Prelude.{◌≡◌, ◌≤◌, ◌<◌, ◌+◌, ◌^◌, ℕ, IfOk, IsTrue, List, length};
+ghost use Rattle.std.specs.Prelude.{◌≡◌, ◌≤◌, ◌<◌, ◌+◌, ◌^◌, IfOk, IsTrue};
 ghost use Rattle.std.specs.Option.{ForSome};
 ghost use Rattle.spec_image.specs.Told.{ReadsOnly};
 ghost use Rattle.blk_io.specs.Faults.{IfDamaged, IfDevice, OpaqueIfDamaged};
 ghost use Rattle.blk_model.specs.Sizes.{largest_offset, part_size, signatures};
-ghost use Rattle.blk_model.specs.State.{State};
 ghost use Rattle.blk_disk.specs.Open.{IsOpen};
 ghost use Rattle.blk_disk.specs.Tables.{is_record_among};
 ghost use Rattle.blk_object.specs.FailedChecks.{IsFailedCheck};
-ghost use Rattle.blk_sparse.specs.Measuring.{IsMeasured};
-ghost use Rattle.blk_sparse.specs.SparseObjects.{with_signature};
 ghost use Rattle.blk_sparse.specs.SparseWrites.{signature_to};
-ghost use Rattle.blk_cache.specs.CacheKeeping.{HoldsState};
 ghost use Rattle.blk_cache.specs.Listing.{OnlyRoomChanges};
-ghost use Rattle.blk_cache.specs.SparseTargets.{IsRise, IsTargetNamed, rise_of};
+ghost use Rattle.blk_cache.specs.SparseTargets.{rise_of, MeasuresTarget, RaisesTarget, WhereTarget};
 
 use crate::cache::Cache;
 use crate::covered::Covered;
@@ -48,13 +44,13 @@ impl Cache {
         requires is_open { ForSome (F.told folder.old).files (IsOpen self.old.files) }
 
         // In each state that is kept, where a handle names the object, it is what the bytes raise.
-        ensures rises { IfOk result (λ rise. ForSome (F.told folder.old).files (λ image. (state : State) (k : HoldsState self.old state image) (moment handle : ℕ) (bytes : List ℕ) → length bytes ≡ count → IsTargetNamed state k.layout moment handle offset count target.now → IsRise state k.layout moment handle offset bytes rise)) }
+        ensures rises { IfOk result (RaisesTarget self.old (F.told folder.old) target.now offset count) }
         ensures reads { ReadsOnly F.told F.faults folder.old folder.new (IfDevice result) }
         ensures others { OnlyRoomChanges self.old self.new }
 
         // Corruption is a check that fails on what is read here. An observable folder gives none where the cache keeps such a state.
         ensures damaged { IfDamaged result (IsFailedCheck self.new.files (F.told folder.new)) }
-        ensures untold { ForSome (F.told folder.old).files (λ image. (state : State) (k : HoldsState self.old state image) (moment handle : ℕ) → IsTargetNamed state k.layout moment handle offset count target.now → OpaqueIfDamaged result (F.told folder.old)) }
+        ensures untold { WhereTarget self.old (F.told folder.old) target.now offset count (OpaqueIfDamaged result (F.told folder.old)) }
     {
         let found = self.measure_parts(folder, target, offset, count)?;
         Ok(rise_of(target, &found))
@@ -74,12 +70,12 @@ impl Cache {
         requires few { count ≤ part_size }
         requires inside { offset + count ≤ largest_offset }
         requires is_open { ForSome (F.told folder.old).files (IsOpen self.old.files) }
-        ensures measured { IfOk result (λ found. ForSome (F.told folder.old).files (λ image. (state : State) (k : HoldsState self.old state image) (moment handle : ℕ) → (is : IsTargetNamed state k.layout moment handle offset count target.now) → IsMeasured k.layout (with_signature is.its.object (signature_to target.now)) (signature_to target.now) offset count found)) }
+        ensures measured { IfOk result (MeasuresTarget self.old (F.told folder.old) target.now offset count) }
         ensures light { IfOk result (λ found. found.bytes < 2 ^ 36) }
         ensures reads { ReadsOnly F.told F.faults folder.old folder.new (IfDevice result) }
         ensures others { OnlyRoomChanges self.old self.new }
         ensures damaged { IfDamaged result (IsFailedCheck self.new.files (F.told folder.new)) }
-        ensures untold { ForSome (F.told folder.old).files (λ image. (state : State) (k : HoldsState self.old state image) (moment handle : ℕ) → IsTargetNamed state k.layout moment handle offset count target.now → OpaqueIfDamaged result (F.told folder.old)) }
+        ensures untold { WhereTarget self.old (F.told folder.old) target.now offset count (OpaqueIfDamaged result (F.told folder.old)) }
     {
         if target.plain {
             return measure_plain(

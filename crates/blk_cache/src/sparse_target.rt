@@ -4,9 +4,9 @@ ghost use Rattle.spec_image.specs.Told.{ReadsOnly};
 ghost use Rattle.blk_io.specs.Faults.{IfDamaged, IfDevice, UndamagedWhere};
 ghost use Rattle.blk_object.specs.FailedChecks.{IsFailedCheck};
 ghost use Rattle.blk_cache.specs.declared.sparse_target.AskedTarget.TheVariants as target;
-ghost use Rattle.blk_cache.specs.CommandClauses.{ForLayout, KeepsAny};
+ghost use Rattle.blk_cache.specs.CommandClauses.{KeepsAny};
 ghost use Rattle.blk_cache.specs.SparseAsking.{early_sparse_refusal};
-ghost use Rattle.blk_cache.specs.SparseTargets.{FindsTarget, IsAskedTarget, asked_plain, asked_target};
+ghost use Rattle.blk_cache.specs.SparseTargets.{asked_plain, asked_target, AsksTarget, FindsTargetIn};
 
 use crate::cache::Cache;
 use crate::sparse_asking::{AskedSparse, PlainObject};
@@ -37,11 +37,11 @@ impl Cache {
         bytes: &[u8],
         moment: u64,
     ) -> Result<AskedTarget, Fault>
-        ensures asked { IfOk result (λ answer. ForLayout self.now (F.told folder.old) (λ state layout. IsAskedTarget state layout moment handle offset bytes.now answer)) }
+        ensures asked { IfOk result (AsksTarget self.now (F.told folder.old) moment handle offset bytes.now) }
         ensures early { IfSome (early_sparse_refusal self.now.handles handle offset (length bytes.now)) (λ why. result ≡ Ok (target.Refused why)) }
 
         // On every folder.
-        ensures finds { IfOk result (FindsTarget self.now.files (early_sparse_refusal self.now.handles handle offset (length bytes.now)) offset (length bytes.now)) }
+        ensures finds { IfOk result (FindsTargetIn self.now handle offset (length bytes.now)) }
         ensures reads { ReadsOnly F.told F.faults folder.old folder.new (IfDevice result) }
 
         // Corruption is a check that fails on what is read here. An observable folder gives none where the cache keeps a state.

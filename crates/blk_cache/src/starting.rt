@@ -1,19 +1,13 @@
 // A cache is opened.
 ghost use Rattle.std.specs.Prelude.{◌≡◌, IfOk, OnOk};
 ghost use Rattle.std.specs.Option.{ForSome};
-ghost use Rattle.spec_image.specs.Image.{Index as index, byte};
-ghost use Rattle.spec_image.specs.Told.{Stays, MayWrite};
-ghost use Rattle.blk_model.specs.Bounds.{bounds_of};
-ghost use Rattle.blk_model.specs.Holding.{open_state};
+ghost use Rattle.spec_image.specs.Told.{Stays, MayWrite, Leaves};
 ghost use Rattle.spec_format.specs.BlockFiles.{IsDamagedBy, IsUsable};
-ghost use Rattle.spec_format.specs.Headers.{IsUnfinished, this_id_of};
-ghost use Rattle.spec_folder.specs.Found.{found};
-ghost use Rattle.spec_run.specs.Opening.{opened_id};
+ghost use Rattle.spec_format.specs.Headers.{IsUnfinished};
 ghost use Rattle.blk_io.specs.Faults.{damage_of};
 ghost use Rattle.blk_cache.specs.BoundNames.{AreAllFree};
-ghost use Rattle.blk_cache.specs.CacheKeeping.{KeepsState};
 ghost use Rattle.blk_cache.specs.Opened.{IsOpeningDamage};
-ghost use Rattle.blk_cache.specs.Opening.{IfOpenDamaged, IfOpenDevice, IfOpenMemory, OpensFolder, OpensOrBreaksOff, WasMadeAt};
+ghost use Rattle.blk_cache.specs.Opening.{IfOpenDamaged, IfOpenDevice, IfOpenMemory, OpensFolder, OpensOrBreaksOff, WasMadeAt, IsInNextSession, KeepsOpened};
 
 use crate::cache::Cache;
 use crate::fault::OpenFault;
@@ -41,11 +35,11 @@ impl Cache {
         limits: Limits,
         moment: u64,
     ) -> Result<Cache, OpenFault>
-        ensures keeps { IfOk result (λ cache. ForSome (F.told f.old).files (λ from. ForSome (F.told f.new).files (KeepsState cache (open_state (found from) (bounds_of limits))))) }
+        ensures keeps { IfOk result (λ cache. Leaves (F.told f.old) (F.told f.new) (KeepsOpened cache limits)) }
         ensures free { IfOk result (λ cache. AreAllFree cache.handles) }
         ensures notes { IfOk result (λ cache. cache.notes ≡ 0) }
         ensures checked { OnOk result (ForSome (F.told f.old).files IsUsable) }
-        ensures session { OnOk result (ForSome (F.told f.old).files (λ from. ForSome (F.told f.new).files (λ image. this_id_of (byte image index) ≡ opened_id from))) }
+        ensures session { OnOk result (Leaves (F.told f.old) (F.told f.new) IsInNextSession) }
 
         // A folder that was uninitialized has the moment as its creation time.
         ensures made { OnOk result (ForSome (F.told f.old).files (λ from. IsUnfinished from → ForSome (F.told f.new).files (WasMadeAt moment))) }

@@ -1,24 +1,18 @@
 // Commands with their notes, and what they print.
-ghost use Rattle.std.specs.Prelude.{◌≡◌, ◌≤◌, ◌+◌, ◌∷◌, ◌++◌, ◌⊎◌, [], IfOk, IfSome, None, OnErr, OnOk, is_some, position, slice_set, true};
-ghost use Rattle.std.specs.Option.{ForSome, option_map};
+ghost use Rattle.std.specs.Prelude.{◌≡◌, ◌≤◌, ◌+◌, ◌∷◌, [], IfOk, IfSome, None, OnErr, OnOk, is_some, position, slice_set, true};
+ghost use Rattle.std.specs.Option.{ForSome};
 ghost use Rattle.spec_image.specs.Steps.{Note};
 ghost use Rattle.spec_image.specs.Told.{Applies, Rises, Stays};
 ghost use Rattle.blk_io.specs.Faults.{IfDamaged, IfDevice, UndamagedWhere};
-ghost use Rattle.blk_io.specs.Streams.{Appends, GoesOn};
-ghost use Rattle.blk_model.specs.Reply.{answer_of};
-ghost use Rattle.blk_model.specs.Request.{request_of, to_close};
+ghost use Rattle.blk_io.specs.Streams.{GoesOn};
+ghost use Rattle.blk_model.specs.Request.{request_of};
 ghost use Rattle.blk_model.specs.Step.{step};
 ghost use Rattle.blk_disk.specs.Open.{IsOpen};
-ghost use Rattle.law_state.specs.Commands.{ForKept, IsNoted, IsStepped, note_number};
+ghost use Rattle.law_state.specs.Commands.{note_number};
 ghost use Rattle.blk_object.specs.FailedChecks.{IsFailedCheck};
-ghost use Rattle.blk_script.specs.Reply.{outcome_text};
-ghost use Rattle.spec_run.specs.Progress.{NotesCommand};
-ghost use Rattle.spec_run.specs.Run.{at_moment};
-ghost use Rattle.spec_run.specs.Script.{is_refused};
-ghost use Rattle.blk_cache.specs.CacheKeeping.{KeepsState};
-ghost use Rattle.blk_cache.specs.CommandClauses.{DoneBy, FlushesClean, ForCall, IsOnSparse, IsRefused, KeepsAny, OnlyNotesChange, SparedBy, StaysIfClean, StopsBy};
+ghost use Rattle.blk_cache.specs.CommandClauses.{DoneBy, ForCall, IsOnSparse, IsRefused, KeepsAny, OnlyNotesChange, SparedBy, StaysIfClean, StopsBy};
 ghost use Rattle.blk_evict.specs.RoomPrinting.{FailsWhereItRose};
-ghost use Rattle.blk_cache.specs.Stepping.{FailsBefore, FrontBy, IfDone, IfSink, IfStepDamaged, IfStepDevice, SaidBy};
+ghost use Rattle.blk_cache.specs.Stepping.{FrontBy, IfDone, IfSink, IfStepDamaged, IfStepDevice, SaidBy, AnsweredBy, ForNextClose, IdleBy, KeptBy, NotedBy, RefusedBy, SteppedBy, UnansweredBy, WritingBy, WrittenBy};
 
 use crate::cache::Cache;
 use crate::fault::StepFault;
@@ -50,12 +44,12 @@ impl Cache {
         requires is_open { ForSome (F.told f.old).files (IsOpen self.old.files) }
 
         // The answer is the model's, and the state after the command is kept, also where only the output failed.
-        ensures answered { IfOk result (λ answer. ForKept (KeepsState self.old) (F.told f.old) (λ state. answer ≡ answer_of (step state moment (request_of command.now)).reply)) }
-        ensures kept { IfDone result (ForKept (KeepsState self.old) (F.told f.old) (λ state. ForSome (F.told f.new).files (KeepsState self.new (step state moment (request_of command.now)).state))) }
+        ensures answered { ForCall self.old (F.told f.old) moment (request_of command.now) (AnsweredBy result) }
+        ensures kept { IfDone result (ForCall self.old (F.told f.old) moment (request_of command.now) (KeptBy self.new (F.told f.new))) }
 
         // The command is made in part with no note, or it is done and its note is the last step; the second is so where it is done.
-        ensures stepped { ForKept (KeepsState self.old) (F.told f.old) (IsStepped (F.told f.old) (F.told f.new) moment (request_of command.now) (note_number (self.old.notes + 1))) }
-        ensures noted { IfDone result (ForKept (KeepsState self.old) (F.told f.old) (IsNoted (F.told f.old) (F.told f.new) moment (request_of command.now) (note_number (self.old.notes + 1)))) }
+        ensures stepped { ForCall self.old (F.told f.old) moment (request_of command.now) (SteppedBy (F.told f.new)) }
+        ensures noted { IfDone result (ForCall self.old (F.told f.old) moment (request_of command.now) (NotedBy (F.told f.new))) }
         ensures counts { IfDone result (self.new.notes ≡ note_number (self.old.notes + 1)) }
 
         // The session has its number still.
@@ -65,16 +59,16 @@ impl Cache {
         ensures alone { IfOk result (λ answer. IsRefused answer → Applies (F.told f.old) (F.told f.new) (Note (note_number (self.old.notes + 1)) ∷ [])) }
 
         // Where the model refuses the command in a kept state, only the note is made, also where only the output failed.
-        ensures refused { IfDone result (ForKept (KeepsState self.old) (F.told f.old) (λ state. is_refused (step state moment (request_of command.now)) ≡ true → Applies (F.told f.old) (F.told f.new) (Note (note_number (self.old.notes + 1)) ∷ []))) }
+        ensures refused { IfDone result (ForCall self.old (F.told f.old) moment (request_of command.now) (RefusedBy (F.told f.new))) }
 
         // A Flush of a clean object makes its note alone.
-        ensures idle { IfDone result (ForKept (KeepsState self.old) (F.told f.old) (λ state. FlushesClean state (request_of command.now) → Applies (F.told f.old) (F.told f.new) (Note (note_number (self.old.notes + 1)) ∷ []))) }
+        ensures idle { IfDone result (ForCall self.old (F.told f.old) moment (request_of command.now) (IdleBy (F.told f.new))) }
 
         // What the command evicts is printed, and then the reply; where there is no answer, a prefix of it; where the folder failed nothing of the reply, and
         // no step was made of a command that the model refuses; or it failed in the reply, after the note, which is the only step of such a command.
-        ensures printed { OnOk result (ForKept (KeepsState self.old) (F.told f.old) (λ state. K.written out.new ≡ option_map (λ w. w ++ outcome_text (step state moment (request_of command.now))) (K.written out.old))) }
-        ensures front { ForKept (KeepsState self.old) (F.told f.old) (λ state. Appends (K.written out.old) (K.written out.new) (outcome_text (step state moment (request_of command.now)))) }
-        ensures unanswered { IfStepDevice result (FailsBefore (KeepsState self.old) (F.told f.old) (F.told f.new) moment (request_of command.now) (K.written out.old) (K.written out.new) ⊎ ForKept (KeepsState self.old) (F.told f.old) (NotesCommand (F.told f.old) (F.told f.new) (at_moment moment (request_of command.now)) (note_number (self.old.notes + 1)))) }
+        ensures printed { OnOk result (ForCall self.old (F.told f.old) moment (request_of command.now) (WrittenBy K.written out.old out.new)) }
+        ensures front { ForCall self.old (F.told f.old) moment (request_of command.now) (WritingBy K.written out.old out.new) }
+        ensures unanswered { ForCall self.old (F.told f.old) moment (request_of command.now) (UnansweredBy (F.told f.new) K.written out.old out.new result) }
 
         ensures is_open { IfDone result (ForSome (F.told f.new).files (IsOpen self.new.files)) }
         ensures damaged { IfStepDamaged result (IsFailedCheck self.new.files (F.told f.new)) }
@@ -106,9 +100,9 @@ impl Cache {
         ensures bound { IfOk result (λ closed. closed ≡ is_some (position is_some self.old.handles)) }
 
         // Where a name is bound its Close is done, and noted.
-        ensures kept { OnOk result (IfSome (position is_some self.old.handles) (λ handle. ForKept (KeepsState self.old) (F.told f.old) (λ state. ForSome (F.told f.new).files (KeepsState self.new (step state moment (to_close handle)).state)))) }
-        ensures stepped { IfSome (position is_some self.old.handles) (λ handle. ForKept (KeepsState self.old) (F.told f.old) (IsStepped (F.told f.old) (F.told f.new) moment (to_close handle) (note_number (self.old.notes + 1)))) }
-        ensures noted { OnOk result (IfSome (position is_some self.old.handles) (λ handle. ForKept (KeepsState self.old) (F.told f.old) (IsNoted (F.told f.old) (F.told f.new) moment (to_close handle) (note_number (self.old.notes + 1))))) }
+        ensures kept { OnOk result (ForNextClose self.old (F.told f.old) moment (KeptBy self.new (F.told f.new))) }
+        ensures stepped { ForNextClose self.old (F.told f.old) moment (SteppedBy (F.told f.new)) }
+        ensures noted { OnOk result (ForNextClose self.old (F.told f.old) moment (NotedBy (F.told f.new))) }
         ensures counts { OnOk result (IfSome (position is_some self.old.handles) (λ _. self.new.notes ≡ note_number (self.old.notes + 1))) }
 
         // The name that was closed is free then, and the other names are bound as before.

@@ -1,5 +1,5 @@
 // The command Trim.
-ghost use Rattle.std.specs.Prelude.{◌≡◌, ℕ, IfOk};
+ghost use Rattle.std.specs.Prelude.{◌≡◌, IfOk};
 ghost use Rattle.std.specs.Option.{ForSome};
 ghost use Rattle.spec_image.specs.Told.{MayWrite};
 ghost use Rattle.blk_io.specs.Faults.{IfDamaged, IfDevice, UndamagedWhere};
@@ -7,7 +7,7 @@ ghost use Rattle.blk_io.specs.Streams.{GoesOn};
 ghost use Rattle.blk_model.specs.Request.{to_trim};
 ghost use Rattle.blk_disk.specs.Open.{IsOpen};
 ghost use Rattle.blk_object.specs.FailedChecks.{IsFailedCheck};
-ghost use Rattle.blk_cache.specs.CommandClauses.{DoneBy, ForCall, IsRefused, KeepsAny, StopsBy};
+ghost use Rattle.blk_cache.specs.CommandClauses.{DoneBy, IsRefused, KeepsAny, StopsBy, AtAnyMoment};
 ghost use Rattle.blk_evict.specs.RoomPrinting.{FailsWhereItRose};
 ghost use Rattle.blk_cache.specs.Stepping.{FrontBy, SaidBy};
 
@@ -30,12 +30,12 @@ impl Cache {
         bytes: u64,
     ) -> Result<Answer, Fault>
         requires is_open { ForSome (F.told folder.old).files (IsOpen self.old.files) }
-        ensures does { (moment : ℕ) → ForCall self.old (F.told folder.old) moment (to_trim bytes) (DoneBy self.new (F.told folder.new) result) }
-        ensures stops { (moment : ℕ) → ForCall self.old (F.told folder.old) moment (to_trim bytes) (StopsBy (F.told folder.new)) }
+        ensures does { AtAnyMoment self.old (F.told folder.old) (to_trim bytes) (DoneBy self.new (F.told folder.new) result) }
+        ensures stops { AtAnyMoment self.old (F.told folder.old) (to_trim bytes) (StopsBy (F.told folder.new)) }
 
         // What it evicts is printed, and on any answer a prefix of that.
-        ensures says { (moment : ℕ) → ForCall self.old (F.told folder.old) moment (to_trim bytes) (SaidBy failed.old failed.new K.written out.old out.new result) }
-        ensures front { (moment : ℕ) → ForCall self.old (F.told folder.old) moment (to_trim bytes) (FrontBy K.written out.old out.new) }
+        ensures says { AtAnyMoment self.old (F.told folder.old) (to_trim bytes) (SaidBy failed.old failed.new K.written out.old out.new result) }
+        ensures front { AtAnyMoment self.old (F.told folder.old) (to_trim bytes) (FrontBy K.written out.old out.new) }
         ensures fails { FailsWhereItRose failed.old failed.new (K.faults out.old) (K.faults out.new) }
 
         ensures passes { IfOk result (λ given. IsRefused given → ⊥) }

@@ -1,25 +1,21 @@
 // The command Write.
-ghost use Rattle.std.specs.Prelude.{All, ◌≡◌, ◌≤◌, ◌<◌, ◌^◌, IfOk, IfSome, IsTrue, None, Ok, OnOk, false, length, true, ℕ, Bool};
+ghost use Rattle.std.specs.Prelude.{All, ◌≡◌, ◌≤◌, ◌<◌, ◌^◌, IfOk, IfSome, IsTrue, None, Ok, OnOk, false, length, true};
 ghost use Rattle.std.specs.Option.{ForSome};
-ghost use Rattle.spec_image.specs.Told.{Passes, Rises, Stays, MayWrite, ReadsOnly};
+ghost use Rattle.spec_image.specs.Told.{Rises, Stays, MayWrite, ReadsOnly};
 ghost use Rattle.blk_io.specs.Faults.{IfDamaged, IfDevice, UndamagedWhere};
 ghost use Rattle.blk_io.specs.Streams.{GoesOn};
-ghost use Rattle.blk_model.specs.Holding.{rest};
 ghost use Rattle.blk_model.specs.Sizes.{longest_stream, most_stream};
-ghost use Rattle.blk_model.specs.State.{State};
 ghost use Rattle.blk_model.specs.declared.Answer.TheVariants as answer;
 ghost use Rattle.blk_disk.specs.Open.{IsOpen};
 ghost use Rattle.blk_disk.specs.Tables.{is_node_among};
 ghost use Rattle.blk_lru.specs.Lists.{IsListed};
-ghost use Rattle.law_state.specs.Changes.{Finds};
-ghost use Rattle.law_state.specs.Commands.{IsDone, MayStop};
 ghost use Rattle.blk_object.specs.FailedChecks.{IsFailedCheck};
 ghost use Rattle.blk_cache.specs.declared.asking.Asked.TheVariants as asked;
-ghost use Rattle.blk_cache.specs.CacheKeeping.{HoldsState};
-ghost use Rattle.blk_cache.specs.CommandClauses.{DoneBy, IsRefused, KeepsAny, SparedBy, StopsBy};
+ghost use Rattle.blk_cache.specs.CommandClauses.{DoneBy, IsRefused, KeepsAny, SparedBy, StopsBy, EndedBy, EndingBy, KeptAs};
 ghost use Rattle.blk_evict.specs.RoomPrinting.{FailsWhereItRose};
 ghost use Rattle.blk_cache.specs.Stepping.{FrontBy, SaidBy};
-ghost use Rattle.blk_cache.specs.Writing.{CanGetFor, CountsRise, ForEachToUse, ForWrite, IsAskedToWrite, IsNotRefusedEarly, IsReadyToWriteFor, IsReadyToWriteForSome, IsUsedAndCounted, KeepsToWriteFor, early_refusal, early_write_refusal, state_written, write_of};
+ghost use Rattle.blk_cache.specs.Writing.{CountsRise, ForWrite, IsNotRefusedEarly, IsReadyToWriteForSome, KeepsToWriteFor, early_refusal, early_write_refusal, written_by, AsksToWrite, ForCanGet, ForReadyWrite, ForUse, UsedBy};
+ghost use Rattle.blk_sparse.specs.Clauses.{Recovers};
 
 use crate::asking::{Asked, NamedStream};
 use crate::cache::Cache;
@@ -119,8 +115,8 @@ impl Cache {
         requires is_open { ForSome (F.told folder.old).files (IsOpen self.old.files) }
 
         // The Write is done, whatever state it began with, and after each single write the folder is as a crash in it may leave it.
-        ensures does { IfOk result (λ answer. ForSome (F.told folder.old).files (λ from. (state : State) → IsReadyToWriteFor self.old state request.now size from → IsDone (HoldsState self.new) (F.told folder.new) request.now.moment (write_of request.now) answer state)) }
-        ensures stops { ForSome (F.told folder.old).files (λ from. (state : State) → IsReadyToWriteFor self.old state request.now size from → Passes (F.told folder.old) (F.told folder.new) (MayStop state request.now.moment (write_of request.now))) }
+        ensures does { ForReadyWrite self.old (F.told folder.old) request.now size (EndedBy self.new (F.told folder.new) result) }
+        ensures stops { ForReadyWrite self.old (F.told folder.old) request.now size (EndingBy (F.told folder.new)) }
 
         ensures wrote { IfOk result (λ given. given ≡ answer.Wrote (length request.now.bytes.now)) }
         ensures notes { self.new.notes ≡ self.old.notes }
@@ -147,10 +143,10 @@ impl Cache {
         requires is_open { ForSome (F.told folder.old).files (IsOpen self.old.files) }
 
         // In the end each state that was kept, whose object can get them, is kept with them, and with the item in front.
-        ensures written { OnOk result (ForSome (F.told folder.old).files (λ from. (state : State) → HoldsState self.old state from → CanGetFor state request.now size → ForSome (F.told folder.new).files (HoldsState self.new (state_written request.now state)))) }
+        ensures written { OnOk result (ForCanGet self.old (F.told folder.old) request.now size (KeptAs self.new (F.told folder.new) (written_by request.now))) }
 
         // At each word the old durable contents are recovered.
-        ensures stops { ForSome (F.told folder.old).files (λ from. (state : State) → HoldsState self.old state from → CanGetFor state request.now size → Passes (F.told folder.old) (F.told folder.new) (Finds (rest state))) }
+        ensures stops { ForCanGet self.old (F.told folder.old) request.now size (Recovers (F.told folder.old) (F.told folder.new)) }
 
         ensures notes { self.new.notes ≡ self.old.notes }
         ensures mark { self.new.mark ≡ self.old.mark }
@@ -194,7 +190,7 @@ impl Cache {
         offset: u64,
         bytes: &[u8],
     ) -> Result<Asked, Fault>
-        ensures asked { IfOk result (λ answer. ForSome (F.told folder.old).files (λ image. (state : State) (moment : ℕ) (cut : Bool) → (k : HoldsState self.now state image) → IsAskedToWrite state k.layout moment handle stream offset cut bytes.now answer)) }
+        ensures asked { IfOk result (AsksToWrite self.now (F.told folder.old) handle stream offset bytes.now) }
 
         // A refusal that the handles, the limits, the stream and the length alone decide is given on every folder; where a stream is found they decide none.
         ensures refuses { IfSome (early_write_refusal self.now handle stream offset (length bytes.now)) (λ why. result ≡ Ok (asked.Refused why)) }
@@ -247,11 +243,11 @@ fn use_and_count<F: Folder>(
     requires is_open { ForSome (F.told folder.old).files (IsOpen files.now) }
 
     // In the end each state that was kept is kept with the item in front, and the bytes of the index have risen.
-    ensures used { OnOk result (object.now.doomed ≡ false → ForSome (F.told folder.old).files (λ from. ForEachToUse object.now.node from (λ state layout its. ForSome (F.told folder.new).files (IsUsedAndCounted state layout its object.now.size after from)))) }
+    ensures used { OnOk result (ForUse (F.told folder.old) object.now (UsedBy (F.told folder.new) object.now.size after)) }
     ensures stays { object.now.doomed ≡ true → Stays (F.told folder.old) (F.told folder.new) }
 
     // At each word the old durable contents are recovered.
-    ensures stops { object.now.doomed ≡ false → ForSome (F.told folder.old).files (λ from. ForEachToUse object.now.node from (λ state layout its. Passes (F.told folder.old) (F.told folder.new) (Finds (rest state)))) }
+    ensures stops { ForUse (F.told folder.old) object.now (λ from state layout its. Recovers (F.told folder.old) (F.told folder.new) state) }
 
     ensures is_open { ForSome (F.told folder.new).files (IsOpen files.now) }
     ensures damaged { IfDamaged result (IsFailedCheck files.now (F.told folder.new)) }
