@@ -1,7 +1,7 @@
 // A cache is opened.
 ghost use Rattle.std.specs.Prelude.{◌≡◌, IfOk, OnOk};
 ghost use Rattle.std.specs.Option.{ForSome};
-ghost use Rattle.spec_image.specs.Told.{Stays, MayWrite, Leaves};
+ghost use Rattle.spec_image.specs.Told.{Stays, MayWrite, LeavesFrom};
 ghost use Rattle.spec_format.specs.BlockFiles.{IsDamagedBy, IsUsable};
 ghost use Rattle.spec_format.specs.Headers.{IsUnfinished};
 ghost use Rattle.blk_io.specs.Faults.{damage_of};
@@ -35,11 +35,11 @@ impl Cache {
         limits: Limits,
         moment: u64,
     ) -> Result<Cache, OpenFault>
-        ensures keeps { IfOk result (λ cache. Leaves (F.told f.old) (F.told f.new) (KeepsOpened cache limits)) }
+        ensures keeps { IfOk result (λ cache. LeavesFrom (F.told f.old) (F.told f.new) (KeepsOpened cache limits)) }
         ensures free { IfOk result (λ cache. AreAllFree cache.handles) }
         ensures notes { IfOk result (λ cache. cache.notes ≡ 0) }
         ensures checked { OnOk result (ForSome (F.told f.old).files IsUsable) }
-        ensures session { OnOk result (Leaves (F.told f.old) (F.told f.new) IsInNextSession) }
+        ensures session { OnOk result (LeavesFrom (F.told f.old) (F.told f.new) IsInNextSession) }
 
         // A folder that was uninitialized has the moment as its creation time.
         ensures made { OnOk result (ForSome (F.told f.old).files (λ from. IsUnfinished from → ForSome (F.told f.new).files (WasMadeAt moment))) }

@@ -4,8 +4,7 @@ use Rattle.std.specs.Option.{ForSome}
 use Rattle.spec_image.specs.Bytes.{range_at}
 use Rattle.spec_image.specs.Footprint.{Footprint, range}
 use Rattle.spec_image.specs.Image.{Block, HasRange, Image, byte}
-use Rattle.spec_image.specs.Steps.{TrailStep}
-use Rattle.spec_image.specs.Told.{Applies, Passes, Told}
+use Rattle.spec_image.specs.Told.{Passes, Told}
 use Rattle.spec_format.specs.Address.{file_selector, place}
 use Rattle.spec_format.specs.Sealed.{IsMidUpdate, IsUpdated, RecordChecks, record_at}
 
@@ -38,7 +37,3 @@ abbrev pub PassesUpdate : (old new : Told) → (w : ℕ) → (bytes : List ℕ) 
 PassesUpdate old new w bytes changes = ForSome old.files (λ from. bytes ≡ record_at from w → RecordChecks w from → Passes old new (IsMidUpdate from w changes))
 
 -- Steps.
-
--- the steps that a function gives for the image were made, where the image is observable
-abbrev pub MakesStepsOf : (old new : Told) → (steps_on : Image → List TrailStep) → Type 0
-MakesStepsOf old new steps_on = ForSome old.files (λ from. Applies old new (steps_on from))

@@ -2,14 +2,13 @@
 ghost use Rattle.std.specs.Prelude.{◌≡◌, ◌+◌, ◌*◌, ◌<◌, ◌≤◌, IsTrue, max, None, OnOk, OnErr};
 ghost use Rattle.std.specs.Option.{ForSome};
 ghost use Rattle.spec_image.specs.Image.{HasRange, Block as block};
-ghost use Rattle.spec_image.specs.Told.{Applies, AppliesPrefix, MakesPartOf, Rises, Stays, StopsFrom};
+ghost use Rattle.spec_image.specs.Told.{Applies, AppliesPrefix, MakesPartOf, Rises, Stays, StopsFrom, MakesSteps};
 ghost use Rattle.spec_format.specs.Address.{header_size};
 ghost use Rattle.spec_format.specs.BlockFiles.{is_among, most_blocks, kind_among};
 ghost use Rattle.blk_disk.specs.Tables.{Agrees, all_files, blocks_of, files_of};
 ghost use Rattle.spec_format.specs.Growth.{StaysWholeOutside};
 ghost use Rattle.blk_disk.specs.Growth as growth;
 ghost use Rattle.blk_disk.specs.Growth.{grow_steps, growth_of, lengthen_steps, raise_steps, size_as, GrowsFile};
-ghost use Rattle.blk_disk.specs.Clauses.{MakesStepsOf};
 
 use crate::heads::{GROWTH, block_size};
 use crate::tables::BlockFiles;
@@ -30,7 +29,7 @@ impl BlockFiles {
         requires linked { IsTrue (is_among (all_files self.old) file) }
         requires below { blocks_of self.old file < most_blocks }
         requires agrees { ForSome (F.told f.old).files (Agrees self.old) }
-        ensures steps { OnOk result (MakesStepsOf (F.told f.old) (F.told f.new) (λ image. grow_steps self.old file image)) }
+        ensures steps { OnOk result (MakesSteps (F.told f.old) (F.told f.new) (λ image. grow_steps self.old file image)) }
         ensures prefix { MakesPartOf (F.told f.old) (F.told f.new) (λ image. grow_steps self.old file image) }
         ensures kept { OnOk result (GrowsFile self.old self.new file) }
         ensures same { OnErr result (self.new ≡ self.old) }
@@ -83,7 +82,7 @@ impl BlockFiles {
 // Bytes of the counter that the folder doesn't give count as 0.
 fn raise<F: Folder>(folder: &mut F, file: u8, groups: u32, blocks: u32) -> Result<(), Failed>
     requires { ForSome (F.told folder.old).files (λ image. HasRange image (block file) 0 40) }
-    ensures steps { OnOk result (MakesStepsOf (F.told folder.old) (F.told folder.new) (λ image. raise_steps image file groups blocks)) }
+    ensures steps { OnOk result (MakesSteps (F.told folder.old) (F.told folder.new) (λ image. raise_steps image file groups blocks)) }
     ensures prefix { ForSome (F.told folder.old).files (λ image. AppliesPrefix (F.told folder.old) (F.told folder.new) (raise_steps image file groups blocks)) }
     ensures untold { (F.told folder.old).files ≡ None → (F.told folder.new).files ≡ None }
     ensures later { F.faults folder.old ≤ F.faults folder.new }

@@ -2,7 +2,7 @@
 ghost use Rattle.std.specs.Prelude.{[], ◌≡◌, ◌+◌, ◌^◌, ◌<◌, ◌≤◌, IsTrue, OnErr, OnOk, length};
 ghost use Rattle.std.specs.Option.{ForSome};
 ghost use Rattle.spec_image.specs.Steps.{with_words};
-ghost use Rattle.spec_image.specs.Told.{Applies, AppliesPrefix, MakesPartOf, Rises, Stays, ReadsOnly, LeavesFrom, LeavesWhere, StopsWhere};
+ghost use Rattle.spec_image.specs.Told.{Applies, AppliesPrefix, MakesPartOf, Rises, Stays, ReadsOnly, LeavesFrom, LeavesWhere, StopsWhere, MakesSteps};
 ghost use Rattle.spec_format.specs.Address.{place};
 ghost use Rattle.spec_format.specs.Records as records;
 ghost use Rattle.blk_addr.specs.Kind.{kind_number};
@@ -13,7 +13,7 @@ ghost use Rattle.blk_disk.specs.Tables.{Agrees, stands_among};
 ghost use Rattle.spec_format.specs.Sealed.{AreChanges, BeginsWithRecord, IsMidUpdate, RecordChecks, placed, record_size, seal_by_kind, seal_place, seal_steps, sealed, sealed_steps, size_by_kind, steps_over, update_steps, update_words};
 ghost use Rattle.blk_disk.specs.Damages.{IsFailedRecord};
 ghost use Rattle.blk_disk.specs.Unsealed.{missing_steps};
-ghost use Rattle.blk_disk.specs.Clauses.{IsRecordAt, MakesStepsOf, PassesUpdate, UpdatesRecord};
+ghost use Rattle.blk_disk.specs.Clauses.{IsRecordAt, PassesUpdate, UpdatesRecord};
 
 use crate::names::file_of;
 use crate::seals::{missing_seal, seal_of, size_of, wrong_seal};
@@ -48,7 +48,7 @@ impl BlockFiles {
         ensures updated { OnOk result (LeavesFrom (F.told f.old) (F.told f.new) (UpdatesRecord addr changes.now)) }
         ensures checks { ForSome (F.told f.old).files (RecordChecks addr) → ForSome (F.told f.new).files (RecordChecks addr) }
         ensures agrees { ForSome (F.told f.new).files (Agrees self.now) }
-        ensures steps { OnOk result (MakesStepsOf (F.told f.old) (F.told f.new) (λ from. sealed_steps from addr changes.now)) }
+        ensures steps { OnOk result (MakesSteps (F.told f.old) (F.told f.new) (λ from. sealed_steps from addr changes.now)) }
         ensures prefix { MakesPartOf (F.told f.old) (F.told f.new) (λ from. sealed_steps from addr changes.now) }
 
         // If the record's checksum matches or is absent, that is so at each word of the update; the record has a prefix of the changes, and nothing else has
@@ -142,7 +142,7 @@ impl BlockFiles {
         ensures checked { OnOk result (ForSome (F.told folder.old).files (RecordChecks addr)) }
         ensures updated { OnOk result (LeavesFrom (F.told folder.old) (F.told folder.new) (UpdatesRecord addr [])) }
         ensures agrees { ForSome (F.told folder.new).files (Agrees self.now) }
-        ensures steps { OnOk result (MakesStepsOf (F.told folder.old) (F.told folder.new) (λ from. seal_steps from addr)) }
+        ensures steps { OnOk result (MakesSteps (F.told folder.old) (F.told folder.new) (λ from. seal_steps from addr)) }
         ensures prefix { MakesPartOf (F.told folder.old) (F.told folder.new) (λ from. seal_steps from addr) }
 
         // Before and after the word the record has its fields and a checksum that matches or is absent, and nothing else has changed.

@@ -1,12 +1,8 @@
 -- Clauses of calls on an entry: what its record says, and when no check fails.
-use Rattle.std.specs.Prelude.{◌≡◌, ◌↔◌, ℕ, Bool, IsTrue, List, Result, Some, length, true}
-use Rattle.std.specs.Option.{ForSome}
+use Rattle.std.specs.Prelude.{◌≡◌, ◌↔◌, ℕ, Bool, IsTrue, List, Some, length, true}
 use Rattle.spec_image.specs.Image.{Image}
-use Rattle.spec_image.specs.Told.{Told}
 use Rattle.spec_format.specs.Hash.{hash as hash_of}
 use Rattle.spec_folder.specs.View.{entry_at}
-use Rattle.blk_io.specs.declared.fault.Fault.{Fault}
-use Rattle.blk_io.specs.Faults.{OpaqueIfDamaged}
 use Rattle.blk_disk.specs.declared.tables.BlockFiles.{BlockFiles}
 use Rattle.blk_disk.specs.Tables.{is_node_among}
 use Rattle.blk_entry.specs.Keys.{HasData, HasKeyPlace, HasReadableKey, IsRecordHead, bytes_before, key_address, key_at}

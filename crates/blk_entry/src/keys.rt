@@ -7,12 +7,11 @@ ghost use Rattle.blk_record.specs.Views.{entry_window};
 ghost use Rattle.spec_format.specs.Address.{blocks_256, is_address, kind_of, place};
 ghost use Rattle.spec_format.specs.Records.{entry_size};
 ghost use Rattle.blk_io.specs.declared.folder.FileId.TheVariants as FileId;
-ghost use Rattle.blk_io.specs.Faults.{IfDamaged, IfDevice};
+ghost use Rattle.blk_io.specs.Faults.{IfDamaged, IfDevice, UndamagedWhereBoth};
 ghost use Rattle.blk_disk.specs.Tables.{Agrees, stands_among};
 ghost use Rattle.spec_format.specs.Sealed.{RecordChecks};
 ghost use Rattle.spec_folder.specs.View.{entry_at};
 ghost use Rattle.blk_entry.specs.Keys as keys;
-ghost use Rattle.blk_entry.specs.EntryClauses.{UndamagedWhereBoth};
 ghost use Rattle.blk_entry.specs.Keys.{CanBeRead, HasKeyBytes, HasKeyPlace, HasRecord, IsRecordHead, IsHeadDamage, IsInside, IsMisplacedKey, IsPiece, IsPlaceOfKey, key_at, key_bytes};
 
 use crate::data::{is_of, read_data};

@@ -5,7 +5,7 @@ use Rattle.spec_image.specs.Bytes.{content, spliced, zeros}
 use Rattle.spec_image.specs.Image.{File, Index, Block, External, Image, byte, bytes_of, length_of}
 use Rattle.spec_image.specs.Steps.{TrailStep, SetLength, Delete, words}
 use Rattle.spec_image.specs.Order.{IsNextFile}
-use Rattle.spec_image.specs.Told.{Told, Applies, MakesPartOf}
+use Rattle.spec_image.specs.Told.{Told, MakesPartOf, MakesSteps}
 use Rattle.spec_format.specs.Address.{header_size}
 use Rattle.spec_format.specs.BlockFiles.{most_blocks}
 use Rattle.spec_format.specs.Headers.{entry_size_of}

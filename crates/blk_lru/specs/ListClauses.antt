@@ -1,16 +1,13 @@
 -- Clauses of calls on the LRU list: what they write, and what they leave of a list that is at rest.
-use Rattle.std.specs.Prelude.{ℕ, ◌≡◌, true, List, Result, ◌∷◌, ◌++◌}
+use Rattle.std.specs.Prelude.{ℕ, ◌≡◌, true, List, ◌∷◌, ◌++◌}
 use Rattle.std.specs.Option.{ForSome}
 use Rattle.spec_image.specs.Image.{Image}
-use Rattle.spec_image.specs.Steps.{TrailStep}
-use Rattle.spec_image.specs.Told.{Applies, Passes, Told}
+use Rattle.spec_image.specs.Told.{Passes, Told}
 use Rattle.spec_folder.specs.ListImages.{HasListAtRest, walked}
 use Rattle.spec_folder.specs.ListPlans.{touch_writes}
 use Rattle.spec_folder.specs.ListSteps.{IsSealed, Seals}
 use Rattle.spec_folder.specs.ListView.{CanBeInserted}
 use Rattle.spec_folder.specs.View.{list_of}
-use Rattle.blk_io.specs.declared.fault.Fault.{Fault}
-use Rattle.blk_io.specs.Faults.{OpaqueIfDamaged}
 use Rattle.blk_disk.specs.declared.tables.BlockFiles.{BlockFiles}
 use Rattle.blk_disk.specs.Tables.{Agrees, is_node_among}
 use Rattle.blk_lru.specs.Nodes.{link_at}

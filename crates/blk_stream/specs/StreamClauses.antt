@@ -3,8 +3,7 @@ use Rattle.std.specs.Prelude.{◌≡◌, ◌≢◌, ◌+◌, ℕ, [], IfOk, List
 use Rattle.std.specs.Option.{ForSome}
 use Rattle.spec_image.specs.Bytes.{content, word_at}
 use Rattle.spec_image.specs.Image.{Image}
-use Rattle.spec_image.specs.Steps.{TrailStep}
-use Rattle.spec_image.specs.Told.{Applies, Passes, Told}
+use Rattle.spec_image.specs.Told.{Passes, Told}
 use Rattle.spec_format.specs.Address.{block_count, external, file_selector, first_block, kind_of}
 use Rattle.spec_format.specs.Records.{entry_is_sealed}
 use Rattle.spec_format.specs.Sealed.{RecordChecks, record_at}
@@ -27,10 +26,6 @@ use Rattle.blk_stream.specs.Stages.{IsFilled}
 use Rattle.blk_stream.specs.Streams.{address_place, size_place, streams_at}
 
 -- All steps and answers.
-
--- exactly the steps that `steps_on` gives for the image before them were made
-abbrev pub MakesWhole : (old new : Told) → (steps_on : Image → List TrailStep) → Type 0
-MakesWhole old new steps_on = ForSome old.files (λ from. Applies old new (steps_on from))
 
 -- where P holds of the folder before a call and the answer is Ok, the answer and the folder that it leaves are in relation Q to that one
 abbrev pub OkEndsWhere : {A E : Type 0} → Result A E → (old new : Told) → (Image → Type 0) → (A → Image → Image → Type 0) → Type 0

@@ -2,12 +2,12 @@
 ghost use Rattle.std.specs.Prelude.{◌≡◌, ◌+◌, ◌≤◌, ◌<◌, OnOk, length};
 ghost use Rattle.std.specs.Option.{ForSome};
 ghost use Rattle.spec_image.specs.Footprint.{SameOutside};
-ghost use Rattle.spec_image.specs.Told.{LeavesWhere, MakesPartOf, MayWrite, Rises, StopsFrom};
+ghost use Rattle.spec_image.specs.Told.{LeavesWhere, MakesPartOf, MayWrite, Rises, StopsFrom, MakesSteps};
 ghost use Rattle.blk_io.specs.Faults.{IfDamaged, IfDevice, UndamagedWhere};
 ghost use Rattle.blk_disk.specs.Tables.{Agrees};
 ghost use Rattle.blk_entry.specs.Keys.{IsCut, IsInFile, IsInside, data_at};
 ghost use Rattle.blk_entry.specs.Steps.{data_steps};
-ghost use Rattle.blk_stream.specs.StreamClauses.{AreOldBytesOf, HasOldApart, MakesWhole};
+ghost use Rattle.blk_stream.specs.StreamClauses.{AreOldBytesOf, HasOldApart};
 ghost use Rattle.blk_stream.specs.Copying.{HasOldPlace, IsCopied, IsCutOld, IsCutPrefix, IsOldThere, ShareNoData, old_spans, span_of};
 
 use crate::places::Stored;
@@ -62,7 +62,7 @@ fn copy_piece<F: Folder>(
     requires to_inside { IsInside files.now to at (length piece.old) }
     requires agrees { ForSome (F.told folder.old).files (Agrees files.now) }
     requires to_there { ForSome (F.told folder.old).files (IsInFile to at (length piece.old)) }
-    ensures steps { OnOk result (MakesWhole (F.told folder.old) (F.told folder.new) (λ old. data_steps to at (data_at old from at (length piece.old)))) }
+    ensures steps { OnOk result (MakesSteps (F.told folder.old) (F.told folder.new) (λ old. data_steps to at (data_at old from at (length piece.old)))) }
     ensures prefix { MakesPartOf (F.told folder.old) (F.told folder.new) (λ old. data_steps to at (data_at old from at (length piece.old))) }
     ensures agrees { ForSome (F.told folder.new).files (Agrees files.now) }
     ensures damaged { IfDamaged result (IsCut (F.told folder.new) from at (length piece.old)) }
