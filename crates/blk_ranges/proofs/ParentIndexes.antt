@@ -160,7 +160,7 @@ bare-index head n =
     no-bit true x k e = ap (λ (z : ℕ). bit_at z k == 1) e ∙ ap (λ (z : ℕ). z == 1) (bit_at-zero k)
     no-bit false x k e = refl
 
--- has no parts
+-- an index of a parent without a bit has no parts
 pub no-parts : (head : ParentHead) → IsParentHead head → read_parent_index (head_bytes head ++ replicate 8192 0) ≡ Some (no_parts (head_signature head) head.key_len)
 unfolding parent_bytes
 no-parts head valid = index-printed (bare head 8192) valid (length-replicate {A = ℕ} 8192 0) ∙ ap Some (bare-index head 8192)

@@ -59,7 +59,7 @@ WhereNextBucket told old new bucket front records whole P =
 abbrev pub DoesAll : (asked : Image → List TrailStep) → StepClause
 DoesAll asked from old new = Applies old new (asked from)
 
--- a prefix of these was made
+-- a prefix of the steps that `asked` gives for the image was made
 abbrev pub DoesPrefix : (asked : Image → List TrailStep) → StepClause
 DoesPrefix asked from old new = AppliesPrefix old new (asked from)
 
@@ -101,7 +101,7 @@ StopsWith P from old new = RepairBreaksOff old new (P from)
 abbrev pub EndsRepair : (id : ℕ) → StepClause
 EndsRepair id from old new = EndsWithCrashWord old new (IsMidRepair from) (IsRepairedFor id from)
 
--- the recovery broke off before that, or it is done
+-- the recovery of the image, for the session with this number, broke off before the crash word was set, or it is done
 abbrev pub EndsOrStopsRepair : (id : ℕ) → StepClause
 EndsOrStopsRepair id from old new = EndsOrBreaksOff old new (IsMidRepair from) (IsRepairedFor id from)
 

@@ -354,7 +354,7 @@ doomed-now = record {
   was b c true h = record { node = second_node; loaded = second 0; listed = refl; here = refl; record_is = among-one second_contents c h }
   was b c false h = absurd (let z : false ≡ true = h in cc)
 
--- is laid out
+-- the state in which the object is doomed is laid out
 pub doom-is_laid : IsLayoutOf (doomed 0 two (Some (object true))) (placed_doomed two_layout 0 node two_layout.at one_chain two_layout.owner)
 doom-is_laid = doomed-is-laid two two_layout two-is_represented.holds.lies two-is_valid 0 (object true) (loaded 0) two_layout.at one_chain two_layout.owner doomed-now
 

@@ -78,7 +78,7 @@ named-is_valid settled = record {
 abbrev pub family_view : View
 family_view = record { list = record (sparse_view 1 part_node both_nodes).list { tail = parent_node }; store = family_stock }
 
--- represents it
+-- the view of both nodes represents the state with handles
 pub family-is_represented : Represents family_view named_state family_layout
 family-is_represented = record {
   holds = record { shows = family-holds.shows; lies = lies-reordered family_state family_layout family_state.uses named_state.names (λ item. refl) family-holds.lies };
