@@ -17,7 +17,7 @@ use crate::sparse_writing::SparseRequest;
 use blk_handles::OpenObject;
 use blk_io::{Fault, Folder};
 use blk_model::Answer;
-use blk_sparse::{Parent, Target, store_sparse};
+use blk_sparse::{Counted, Parent, SparseBytes, Target, store_sparse};
 
 /// The cost of the index of the parts of a sparse object, in bytes.
 pub(crate) const PARTS_INDEX: u64 = 8256;
@@ -90,15 +90,21 @@ impl Cache {
             unreachable!();
         };
         let own = own_target(&object, target);
+        let data = SparseBytes {
+            offset: request.offset,
+            bytes: request.bytes,
+        };
+        let more = Counted {
+            entries: more_items,
+            charge: more_bytes,
+        };
         store_sparse(
             folder,
             &mut self.files,
             &own,
             &mut self.name,
-            request.offset,
-            request.bytes,
-            more_items,
-            more_bytes,
+            data,
+            more,
             request.moment,
         )?;
         self.count_parts(target, more_bytes, more_items);

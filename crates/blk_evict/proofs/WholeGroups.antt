@@ -34,7 +34,7 @@ use Rattle.blk_evict.specs.declared.item_names.EntryKind.TheVariants as kinds
 use Rattle.blk_evict.specs.declared.list_places.Unpinned.{Unpinned}
 use Rattle.blk_evict.specs.EvictingGroups.{GoesAs, IsGroupOut, kind_of_role, text_of_parts}
 use Rattle.blk_evict.specs.RoomLaws.{MayGo, NamedObjectsStay, group_for, item_charge}
-use Rattle.blk_sparse.specs.Parents.{IsGoneWhole, IsGroupTold, MayGoWhole}
+use Rattle.blk_sparse.specs.Parents.{IsGoneWhole, IsGroupTold, LiesAsParent}
 use Rattle.blk_evict.proofs.GroupsOut.{charged-is, last-listed, main-is, owner-is, owner-unnamed}
 use Rattle.blk_evict.proofs.RoomApart.{key-apart}
 
@@ -130,7 +130,7 @@ module _ (state : State) (layout : Layout) (image : Image) (found : Unpinned) (k
   unnamed-is = owner-unnamed state layout [] image is.kept.entries (main key) is.last.loaded main-listed main-here key refl whole-last.unpinned
 
   module _ (entry : ℕ) (before : Option ℕ) (entry_is : is.last.loaded.contents ≡ entry) (lies : LiesBehind state layout is.last.item is.last.loaded before) where
-    pub may-go : MayGoWhole state layout [] whole-owner.number whole-owner.object key found.node entry before image
+    pub may-go : LiesAsParent false state layout [] whole-owner.number whole-owner.object key found.node entry before image
     may-go = record {
       kept = is.kept;
       here = whole-owner.here;

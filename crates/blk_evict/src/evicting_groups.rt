@@ -3,7 +3,7 @@ ghost use Rattle.std.specs.Prelude.{◌≡◌, ◌≤◌, ◌<◌, ◌^◌, ◌+
 ghost use Rattle.std.specs.Option.{ForSome};
 ghost use Rattle.spec_image.specs.Told.{MayWrite, ReadsOnly, EndsIn};
 ghost use Rattle.blk_io.specs.Faults.{IfDamaged, IfDevice, OpaqueIfDamaged};
-ghost use Rattle.blk_io.specs.Streams.{GoesOn};
+ghost use Rattle.blk_io.specs.Streams.{Appends, GoesOn};
 ghost use Rattle.blk_model.specs.Refusals.{no_key};
 ghost use Rattle.blk_model.specs.Sizes.{longest_key};
 ghost use Rattle.spec_format.specs.Address.{blocks_256, kind_of};
@@ -18,7 +18,7 @@ ghost use Rattle.blk_object.specs.Removing.{LiesBehind};
 ghost use Rattle.blk_evict.specs.EvictingGroups.{IsItemName, alone_kind};
 ghost use Rattle.blk_evict.specs.NameBuffer.{name_buffer_len};
 ghost use Rattle.blk_evict.specs.RoomPrinting.{FailsWhereItRose};
-ghost use Rattle.blk_evict.specs.EvictionCalls.{ForGoing, ForOfKind, ForOwned, WhereOwned, ForOwnedParent, TakesGroup, SaysGroup, FrontOfGroup, StopsGroup, ForParentAt, WhereParentAt, TakesParent, CountsParent, SaysParts, FrontOfParts, StopsParent, ForListed, WhereListed};
+ghost use Rattle.blk_evict.specs.EvictionCalls.{ForGoing, ForGoingLines, ForLines, ForParentLines, ForPartLines, ForOwned, HasReadKey, WhereOwned, ForOwnedParent, TakesGroup, SaysLines, StopsGroup, ForParentAt, WhereParentAt, TakesParent, CountsParent, StopsParent, ForListed, WhereListed};
 
 use crate::item_names::{EntryKind, read_name};
 use crate::list_places::Unpinned;
@@ -32,6 +32,14 @@ use blk_object::{Owned, remove_read};
 use blk_ranges::{ChildName, KEY_OF_NAME, LONGEST_KEY, read_child_name};
 use blk_record::{CHILD, EntryView};
 use blk_sparse::{Gone, remove_parent_with};
+
+/// A parent that is evicted, by what was read of it: where it was found, its key, and what its record owns.
+#[derive(Clone, Copy)]
+pub(crate) struct ReadParent<'a> {
+    pub(crate) found: &'a Unpinned,
+    pub(crate) key: &'a [u8],
+    pub(crate) owned: &'a Owned,
+}
 
 /// Removes the eviction unit of an item that isn't pinned, and prints its items: a main item with its parts, or a part alone. How
 /// many items were evicted is given, and the sum of their costs.
@@ -51,9 +59,9 @@ pub fn evict_group<F: Folder, K: Sink>(
     requires record_stands { IsTrue (is_record_among files.now found.now.entry) }
     requires is_open { ForSome (F.told folder.old).files (IsOpen files.now) }
     ensures out { IfOk result (λ gone. ForGoing (F.told folder.old) found.now (TakesGroup (F.told folder.new) gone)) }
-    ensures prints { OnOk result (ForGoing (F.told folder.old) found.now (SaysGroup failed.old failed.new K.written out.old out.new)) }
+    ensures prints { OnOk result (ForGoingLines (F.told folder.old) found.now (SaysLines failed.old failed.new K.written out.old out.new)) }
     ensures stops { ForGoing (F.told folder.old) found.now (StopsGroup (F.told folder.old) (F.told folder.new)) }
-    ensures front { ForGoing (F.told folder.old) found.now (FrontOfGroup K.written out.old out.new) }
+    ensures front { ForGoingLines (F.told folder.old) found.now (Appends (K.written out.old) (K.written out.new)) }
     ensures quiet { failed.old ≡ true → (failed.new ≡ true) × (K.written out.new ≡ K.written out.old) }
     ensures fails { FailsWhereItRose failed.old failed.new (K.faults out.old) (K.faults out.new) }
     ensures is_open { ForSome (F.told folder.new).files (IsOpen files.now) }
@@ -74,7 +82,12 @@ pub fn evict_group<F: Folder, K: Sink>(
         }
         EntryKind::Parent => {
             let (key, buffer) = name.split_at_mut(named.len);
-            evict_parent(folder, files, key, &named.owned, buffer, out, failed, found)
+            let read = ReadParent {
+                found,
+                key,
+                owned: &named.owned,
+            };
+            evict_parent(folder, files, read, buffer, out, failed)
         }
     }
 }
@@ -94,9 +107,9 @@ fn evict_plain<F: Folder, K: Sink>(
     requires places { All (IsPlaceAmong files.now) owned.now.places }
     requires is_open { ForSome (F.told folder.old).files (IsOpen files.now) }
     ensures out { IfOk result (λ gone. ForOwned (F.told folder.old) found.now owned.now EntryKind.Plain key.now (TakesGroup (F.told folder.new) gone)) }
-    ensures prints { OnOk result (ForOfKind (F.told folder.old) found.now EntryKind.Plain key.now (SaysGroup failed.old failed.new K.written out.old out.new)) }
+    ensures prints { OnOk result (ForLines (F.told folder.old) found.now EntryKind.Plain key.now (SaysLines failed.old failed.new K.written out.old out.new)) }
     ensures stops { ForOwned (F.told folder.old) found.now owned.now EntryKind.Plain key.now (StopsGroup (F.told folder.old) (F.told folder.new)) }
-    ensures front { ForOfKind (F.told folder.old) found.now EntryKind.Plain key.now (FrontOfGroup K.written out.old out.new) }
+    ensures front { ForLines (F.told folder.old) found.now EntryKind.Plain key.now (Appends (K.written out.old) (K.written out.new)) }
     ensures quiet { failed.old ≡ true → (failed.new ≡ true) × (K.written out.new ≡ K.written out.old) }
     ensures fails { FailsWhereItRose failed.old failed.new (K.faults out.old) (K.faults out.new) }
     ensures is_open { ForSome (F.told folder.new).files (IsOpen files.now) }
@@ -124,9 +137,9 @@ fn evict_part<F: Folder, K: Sink>(
     requires places { All (IsPlaceAmong files.now) owned.now.places }
     requires is_open { ForSome (F.told folder.old).files (IsOpen files.now) }
     ensures out { IfOk result (λ gone. ForOwned (F.told folder.old) found.now owned.now EntryKind.Part name.now (TakesGroup (F.told folder.new) gone)) }
-    ensures prints { OnOk result (ForOfKind (F.told folder.old) found.now EntryKind.Part name.now (SaysGroup failed.old failed.new K.written out.old out.new)) }
+    ensures prints { OnOk result (ForLines (F.told folder.old) found.now EntryKind.Part name.now (SaysLines failed.old failed.new K.written out.old out.new)) }
     ensures stops { ForOwned (F.told folder.old) found.now owned.now EntryKind.Part name.now (StopsGroup (F.told folder.old) (F.told folder.new)) }
-    ensures front { ForOfKind (F.told folder.old) found.now EntryKind.Part name.now (FrontOfGroup K.written out.old out.new) }
+    ensures front { ForLines (F.told folder.old) found.now EntryKind.Part name.now (Appends (K.written out.old) (K.written out.new)) }
     ensures quiet { failed.old ≡ true → (failed.new ≡ true) × (K.written out.new ≡ K.written out.old) }
     ensures fails { FailsWhereItRose failed.old failed.new (K.faults out.old) (K.faults out.new) }
     ensures is_open { ForSome (F.told folder.new).files (IsOpen files.now) }
@@ -146,41 +159,37 @@ fn evict_part<F: Folder, K: Sink>(
 fn evict_parent<F: Folder, K: Sink>(
     folder: &mut F,
     files: &BlockFiles,
-    key: &[u8],
-    owned: &Owned,
+    read: ReadParent,
     buffer: &mut [u8],
     out: &mut K,
     failed: &mut bool,
-    found: &Unpinned,
 ) -> Result<Gone, Fault>
-    requires buffer { name_buffer_len ≤ length key.now + length buffer.old }
-    requires few { length key.now ≤ name_buffer_len }
-    requires node { IsTrue (is_node_among files.now found.now.node) }
-    requires record_stands { IsTrue (is_record_among files.now found.now.entry) }
-    requires places { All (IsPlaceAmong files.now) owned.now.places }
-    requires light { owned.now.charge < 2 ^ 34 }
+    requires buffer { name_buffer_len ≤ length read.key.now + length buffer.old }
+    requires few { length read.key.now ≤ name_buffer_len }
+    requires node { IsTrue (is_node_among files.now read.found.now.node) }
+    requires record_stands { IsTrue (is_record_among files.now read.found.now.entry) }
+    requires places { All (IsPlaceAmong files.now) read.owned.now.places }
+    requires light { read.owned.now.charge < 2 ^ 34 }
     requires is_open { ForSome (F.told folder.old).files (IsOpen files.now) }
-    ensures out { IfOk result (λ gone. ForOwnedParent (F.told folder.old) found.now owned.now key.now (TakesGroup (F.told folder.new) gone)) }
-    ensures prints { OnOk result (ForOwnedParent (F.told folder.old) found.now owned.now key.now (SaysGroup failed.old failed.new K.written out.old out.new)) }
-    ensures stops { ForOwnedParent (F.told folder.old) found.now owned.now key.now (StopsGroup (F.told folder.old) (F.told folder.new)) }
-    ensures front { ForOwnedParent (F.told folder.old) found.now owned.now key.now (FrontOfGroup K.written out.old out.new) }
+    ensures out { IfOk result (λ gone. ForOwnedParent (F.told folder.old) read.entry (TakesGroup (F.told folder.new) gone)) }
+    ensures prints { OnOk result (ForParentLines (F.told folder.old) read.entry (SaysLines failed.old failed.new K.written out.old out.new)) }
+    ensures stops { ForOwnedParent (F.told folder.old) read.entry (StopsGroup (F.told folder.old) (F.told folder.new)) }
+    ensures front { ForParentLines (F.told folder.old) read.entry (Appends (K.written out.old) (K.written out.new)) }
     ensures quiet { failed.old ≡ true → (failed.new ≡ true) × (K.written out.new ≡ K.written out.old) }
     ensures fails { FailsWhereItRose failed.old failed.new (K.faults out.old) (K.faults out.new) }
     ensures is_open { ForSome (F.told folder.new).files (IsOpen files.now) }
-    ensures damaged { ForSome (F.told folder.old).files (IsItemName found.now.entry key.now) → IfDamaged result (IsFailedCheck files.now (F.told folder.new)) }
-    ensures untold { ForOwnedParent (F.told folder.old) found.now owned.now key.now (λ from state layout group. OpaqueIfDamaged result (F.told folder.old)) }
+    ensures damaged { ForSome (F.told folder.old).files (HasReadKey read.entry) → IfDamaged result (IsFailedCheck files.now (F.told folder.new)) }
+    ensures untold { ForOwnedParent (F.told folder.old) read.entry (λ from state layout group. OpaqueIfDamaged result (F.told folder.old)) }
     ensures writes { MayWrite F.told F.faults folder.old folder.new (IfDevice result) }
     ensures sink_later { GoesOn K.is K.faults out.old out.new }
 {
-    if is_no_key(key) {
-        let len = key.len() as u32;
-        return Err(record_damage(found.entry, EntryView::KEY_LEN, len));
+    if is_no_key(read.key) {
+        let len = read.key.len() as u32;
+        return Err(record_damage(read.found.entry, EntryView::KEY_LEN, len));
     }
-    say_evicted(out, failed, key);
-    let at = find_listed(folder, files, key, false, found.entry)?;
-    remove_parent(
-        folder, files, &at, found.node, key, owned, buffer, out, failed,
-    )
+    say_evicted(out, failed, read.key);
+    let at = find_listed(folder, files, read.key, false, read.found.entry)?;
+    remove_parent(folder, files, &at, read, buffer, out, failed)
 }
 
 /// Whether bytes are no key: none, or too many.
@@ -195,40 +204,40 @@ fn remove_parent<F: Folder, K: Sink>(
     folder: &mut F,
     files: &BlockFiles,
     at: &Found,
-    node: Addr,
-    key: &[u8],
-    owned: &Owned,
+    read: ReadParent,
     buffer: &mut [u8],
     out: &mut K,
     failed: &mut bool,
 ) -> Result<Gone, Fault>
-    requires node { IsTrue (is_node_among files.now node) }
+    requires node { IsTrue (is_node_among files.now read.found.now.node) }
     requires kind { kind_of at.now.entry ≡ blocks_256 }
     requires stands { IsTrue (stands_among files.now at.now.entry) }
     requires kind_before { IfSome at.now.before (λ before. kind_of before ≡ blocks_256) }
     requires stands_before { IfSome at.now.before (λ before. IsTrue (stands_among files.now before)) }
-    requires some { 1 ≤ length key.now }
-    requires short { length key.now ≤ longest_key }
+    requires some { 1 ≤ length read.key.now }
+    requires short { length read.key.now ≤ longest_key }
     requires buffer { longest_name ≤ length buffer.old }
-    requires places { All (IsPlaceAmong files.now) owned.now.places }
-    requires light { owned.now.charge < 2 ^ 34 }
+    requires places { All (IsPlaceAmong files.now) read.owned.now.places }
+    requires light { read.owned.now.charge < 2 ^ 34 }
     requires is_open { ForSome (F.told folder.old).files (IsOpen files.now) }
-    ensures removed { OnOk result (ForParentAt (F.told folder.old) key.now node at.now owned.now (TakesParent (F.told folder.new))) }
-    ensures gone { IfOk result (λ gone. ForParentAt (F.told folder.old) key.now node at.now owned.now (CountsParent gone)) }
-    ensures session { OnOk result (WhereParentAt (F.told folder.old) key.now node at.now owned.now (EndsIn (F.told folder.new) SameSession)) }
-    ensures prints { OnOk result (ForParentAt (F.told folder.old) key.now node at.now owned.now (SaysParts failed.old failed.new K.written out.old out.new)) }
-    ensures front { ForParentAt (F.told folder.old) key.now node at.now owned.now (FrontOfParts K.written out.old out.new) }
+    ensures removed { OnOk result (ForParentAt (F.told folder.old) at.now read.entry (TakesParent (F.told folder.new))) }
+    ensures gone { IfOk result (λ gone. ForParentAt (F.told folder.old) at.now read.entry (CountsParent gone)) }
+    ensures session { OnOk result (WhereParentAt (F.told folder.old) at.now read.entry (EndsIn (F.told folder.new) SameSession)) }
+    ensures prints { OnOk result (ForPartLines (F.told folder.old) at.now read.entry (SaysLines failed.old failed.new K.written out.old out.new)) }
+    ensures front { ForPartLines (F.told folder.old) at.now read.entry (Appends (K.written out.old) (K.written out.new)) }
     ensures quiet { failed.old ≡ true → (failed.new ≡ true) × (K.written out.new ≡ K.written out.old) }
     ensures fails { FailsWhereItRose failed.old failed.new (K.faults out.old) (K.faults out.new) }
-    ensures stops { ForParentAt (F.told folder.old) key.now node at.now owned.now (StopsParent (F.told folder.old) (F.told folder.new)) }
+    ensures stops { ForParentAt (F.told folder.old) at.now read.entry (StopsParent (F.told folder.old) (F.told folder.new)) }
     ensures is_open { ForSome (F.told folder.new).files (IsOpen files.now) }
     ensures damaged { IfDamaged result (IsFailedCheck files.now (F.told folder.new)) }
-    ensures untold { WhereParentAt (F.told folder.old) key.now node at.now owned.now (λ from. OpaqueIfDamaged result (F.told folder.old)) }
+    ensures untold { WhereParentAt (F.told folder.old) at.now read.entry (λ from. OpaqueIfDamaged result (F.told folder.old)) }
     ensures writes { MayWrite F.told F.faults folder.old folder.new (IfDevice result) }
     ensures sink_later { GoesOn K.is K.faults out.old out.new }
 {
+    let key = read.key;
     let mut say = |number: u32| say_evicted_part(out, failed, key, u64::from(number));
-    remove_parent_with(folder, files, at, node, key, owned, buffer, &mut say)
+    let node = read.found.node;
+    remove_parent_with(folder, files, at, node, key, read.owned, buffer, &mut say)
 }
 
 /// The key of the parent in the name of a part.

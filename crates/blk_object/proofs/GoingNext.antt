@@ -95,11 +95,11 @@ module _ (state : State) (layout : Layout) (keep : Item → Bool) (chains : ℕ 
       pub words-may : AreFreeable words mid
       words-may = record { state = state; layout = layout; keep = keeps_but keep item; chains = chains_but chains entry; others = unlinked; kept = kept-mid }
 
-      -- while they are
-      pub being-freed : (image : Image) → AreGoing words mid image → IsGoingNext state layout keep chains unlinked item node entry before from image
+      -- while the item's addresses are being freed
+      pub being-freed : (image : Image) → AreGoing words mid image → IsGoingNext node entry before (IsBeingFreed state layout keep chains unlinked item entry) from image
       being-freed image going = inr (inr (record { words = words; mid = mid; out = kept-mid; going = going }))
 
-      -- once they are
+      -- once the item's addresses are freed
       pub out-uncounted : (charge : ℕ) → charge ≡ charge_of p.was → (image : Image) → Removes words mid image → IsOutUncounted state layout keep chains unlinked item entry charge from image
       out-uncounted charge is image r = record {
         out = freed.all-out state layout (keeps_but keep item) (chains_but chains entry) words unlinked mid image r kept-mid;
@@ -129,7 +129,7 @@ module _ (a r m : Told) (stays : r ≡ a) (state : State) (layout : Layout) (kee
   taking : Passes r m (IsGoingOut node entry before from)
   taking = stops from still-there (next-may-go state layout keep chains unlinked item node entry before from k p)
 
-  pub next-taking : Passes a m (IsGoingNext state layout keep chains unlinked item node entry before from)
+  pub next-taking : Passes a m (IsGoingNext node entry before (IsBeingFreed state layout keep chains unlinked item entry) from)
   next-taking = passes_stayed stays (passes_weaker taking (λ image going. inr (inl going)) (λ image going. inr (inl going)))
 
   pub next-on : IsTold m (IsGoingOut node entry before from)
@@ -143,7 +143,7 @@ module _ (a r m : Told) (stays : r ≡ a) (state : State) (layout : Layout) (kee
     pub next-they-may : AreFreeable words next-on.image
     next-they-may = words-may state layout keep chains unlinked item node entry before from k p next-on.image out words are
 
-    pub next-freeing : ForSome m.files (λ at. AreFreeable words at → Passes m b (AreGoing words at)) → Passes a b (IsGoingNext state layout keep chains unlinked item node entry before from)
+    pub next-freeing : ForSome m.files (λ at. AreFreeable words at → Passes m b (AreGoing words at)) → Passes a b (IsGoingNext node entry before (IsBeingFreed state layout keep chains unlinked item entry) from)
     next-freeing frees = passes_then next-taking (passes_weaker (frees next-on.image next-on.is next-they-may)
         (being-freed state layout keep chains unlinked item node entry before from k p next-on.image out words are) (being-freed state layout keep chains unlinked item node entry before from k p next-on.image out words are))
 
@@ -181,7 +181,7 @@ part-leaves key keep n others = (own-items-leave key).1 keep n others
 
 -- while a main item is removed
 pub main-going : (state : State) (layout : Layout) (unlinked : List ℕ) (number : ℕ) (object : Object) (node entry : ℕ) (before : Option ℕ) (from image : Image) → KeepsUncounted state layout unlinked from → object_at state number ≡ Some object → object.live ≡ true → LiesAsFound state layout object.key node entry before
-    → IsGoingNext state layout (λ item. true) layout.chains unlinked (main object.key) node entry before from image → FindsEither state (doomed number state (Some object)) image
+    → IsGoingNext node entry before (IsBeingFreed state layout (λ item. true) layout.chains unlinked (main object.key) entry) from image → FindsEither state (doomed number state (Some object)) image
 main-going state layout unlinked number object node entry before from image k at live p (inl is) =
     subst (FindsEither state (doomed number state (Some object))) (sym is) (inl (then-found [] [] from from (λ s l u kept. kept) state layout unlinked k))
 main-going state layout unlinked number object node entry before from image k at live p (inr (inl going)) =
@@ -191,7 +191,7 @@ main-going state layout unlinked number object node entry before from image k at
 
 -- while a part does
 pub part-going : (state : State) (layout : Layout) (keep : Item → Bool) (chains : ℕ → List ℕ) (unlinked : List ℕ) (number : ℕ) (object : Object) (n : ℕ) (node entry : ℕ) (before : Option ℕ) (from image : Image) → KeepsPartlyOut state layout keep chains unlinked from → object_at state number ≡ Some object → LeavesOtherKeys object.key keep
-    → LiesNext state layout keep chains (part object.key n) node entry before → IsGoingNext state layout keep chains unlinked (part object.key n) node entry before from image → Finds (rest (doomed number state (Some object))) image
+    → LiesNext state layout keep chains (part object.key n) node entry before → IsGoingNext node entry before (IsBeingFreed state layout keep chains unlinked (part object.key n) entry) from image → Finds (rest (doomed number state (Some object))) image
 part-going state layout keep chains unlinked number object n node entry before from image k at others p (inl is) =
     subst (Finds (rest (doomed number state (Some object)))) (sym is) (partly-out-finds state layout number object keep chains unlinked from at others k)
 part-going state layout keep chains unlinked number object n node entry before from image k at others p (inr (inl going)) =
@@ -203,16 +203,16 @@ part-going state layout keep chains unlinked number object n node entry before f
 
 -- of an observable folder, in which an item was removed, and then is counted no longer
 module _ (a m b : Told) (state : State) (layout : Layout) (keep : Item → Bool) (chains : ℕ → List ℕ) (unlinked : List ℕ) (item : Item) (node entry : ℕ) (before : Option ℕ) (from : Image) (there : a.files ≡ Some from) (charge : ℕ)
-    (first : Passes a m (IsGoingNext state layout keep chains unlinked item node entry before from)) (out : ForSome m.files (IsOutUncounted state layout keep chains unlinked item entry charge from)) where
-  gone-on : IsTold m (IsGoingNext state layout keep chains unlinked item node entry before from)
-  gone-on = told_then a m from (IsGoingNext state layout keep chains unlinked item node entry before from) there first
+    (first : Passes a m (IsGoingNext node entry before (IsBeingFreed state layout keep chains unlinked item entry) from)) (out : ForSome m.files (IsOutUncounted state layout keep chains unlinked item entry charge from)) where
+  gone-on : IsTold m (IsGoingNext node entry before (IsBeingFreed state layout keep chains unlinked item entry) from)
+  gone-on = told_then a m from (IsGoingNext node entry before (IsBeingFreed state layout keep chains unlinked item entry) from) there first
 
   pub next-counted-out : KeepsPartlyOut state layout keep chains unlinked from → LiesNext state layout keep chains item node entry before → CountsLeft state layout keep from → ForSome m.files (λ at. ForSome b.files (AreCountedLess charge at)) → ForSome b.files (IsOutAndCounted state layout keep chains unlinked item entry)
   next-counted-out k p counted less image is =
       out-and-counted state layout keep chains unlinked item node entry before from k p charge gone-on.image image counted (out gone-on.image gone-on.is) (less gone-on.image gone-on.is image is)
 
   pub next-session : ForSome m.files (λ at. ForSome b.files (AreCountedLess charge at)) → ForSome b.files (SameSession from)
-  next-session less = counted-then a m b from (IsGoingNext state layout keep chains unlinked item node entry before from) charge there first (λ image is. (out image is).session) less
+  next-session less = counted-then a m b from (IsGoingNext node entry before (IsBeingFreed state layout keep chains unlinked item entry) from) charge there first (λ image is. (out image is).session) less
 
   pub next-keeps : ForSome m.files (λ at. ForSome b.files (AreCountedLess charge at)) → ForSome b.files (KeepsUnlinked unlinked from)
   next-keeps less image is = λ s n l u. counted-keeps charge unlinked gone-on.image image (less gone-on.image gone-on.is image is) s n l ((out gone-on.image gone-on.is).loads s n l u)
@@ -223,10 +223,10 @@ module _ (a m b : Told) (state : State) (layout : Layout) (keep : Item → Bool)
 
 -- and a part of an object whose main item is out
 module _ (a m b : Told) (state : State) (layout : Layout) (keep : Item → Bool) (chains : ℕ → List ℕ) (unlinked : List ℕ) (number : ℕ) (object : Object) (n : ℕ) (node entry : ℕ) (before : Option ℕ) (from : Image) (there : a.files ≡ Some from) (charge : ℕ)
-    (first : Passes a m (IsGoingNext state layout keep chains unlinked (part object.key n) node entry before from)) (out : ForSome m.files (IsOutUncounted state layout keep chains unlinked (part object.key n) entry charge from))
+    (first : Passes a m (IsGoingNext node entry before (IsBeingFreed state layout keep chains unlinked (part object.key n) entry) from)) (out : ForSome m.files (IsOutUncounted state layout keep chains unlinked (part object.key n) entry charge from))
     (k : KeepsPartlyOut state layout keep chains unlinked from) (at : object_at state number ≡ Some object) (others : LeavesOtherKeys object.key keep) (p : LiesNext state layout keep chains (part object.key n) node entry before) where
-  part-on : IsTold m (IsGoingNext state layout keep chains unlinked (part object.key n) node entry before from)
-  part-on = told_then a m from (IsGoingNext state layout keep chains unlinked (part object.key n) node entry before from) there first
+  part-on : IsTold m (IsGoingNext node entry before (IsBeingFreed state layout keep chains unlinked (part object.key n) entry) from)
+  part-on = told_then a m from (IsGoingNext node entry before (IsBeingFreed state layout keep chains unlinked (part object.key n) entry) from) there first
 
   pub part-stops : ForSome m.files (λ i. Passes m b (KeepsOut i)) → Passes a b (Finds (rest (doomed number state (Some object))))
   part-stops keeps = passes_then

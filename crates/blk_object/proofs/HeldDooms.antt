@@ -138,7 +138,7 @@ module _ (state : State) (layout : Layout) (number : ℕ) (object : Object) (loa
       let here : (store_of from).entry entry ≡ Some e = ap (store_of from).entry (sym o.entry_is ∙ f.facts.contents_is) ∙ f.entry in
       record_checks from entry bytes kind (ap (λ (x : RecordFields). x.checks) (shown-fields from entry e here) ∙ f.checks))
 
-  -- once it is
+  -- once the record is writable
   module _ (ready : IsWritable from) where
     d : IsDoomedRecord from node loaded
     d = doomed-record from node loaded ready o.loads (o.keeps.lies.single node loaded o.placed.at)
@@ -171,7 +171,7 @@ open-writable files from bytes open_folder = record { bytes = bytes; has_header 
 
 -- of an observable folder
 pub doomed-told : (files : BlockFiles) (a b : Told) (entry : ℕ) → TellsBytes a → ForSome a.files (IsOpen files) → ForSome a.files (λ from. Applies a b (sealed_steps from entry doomed_change))
-    → ForSome a.files (λ from. ForEachOut entry from (λ state layout number object loaded chains unlinked. ForSome b.files (IsDoomedOut state layout number object loaded chains unlinked from)))
+    → ForSome a.files (λ from. ForEachOut entry from (λ kept loaded chains. ForSome b.files (IsDoomedOut kept.state kept.layout kept.number kept.object loaded chains kept.unlinked from)))
 doomed-told files a b entry bytes open_folder steps from there state layout number object loaded chains unlinked o =
     told_whole (IsDoomedOut state layout number object loaded chains unlinked from) (steps from there) (λ image is.
     subst (λ (i : Image). IsDoomedOut state layout number object loaded chains unlinked from (after (sealed_steps from entry doomed_change) i)) (some_inj (sym there ∙ is))
@@ -259,7 +259,7 @@ module _ (a m b : Told) (state : State) (layout : Layout) (unlinked : List ℕ) 
           entry_is = ap (λ (l : Loaded). l.contents) (sym it) ∙ p.entry_is;
         }
 
-    pub held-doomed : ForSome m.files (λ i. ForEachOut entry i (λ state layout number object loaded chains unlinked. ForSome b.files (IsDoomedOut state layout number object loaded chains unlinked i))) → ForSome b.files (IsDoomedUncounted state layout unlinked number object loaded from)
+    pub held-doomed : ForSome m.files (λ i. ForEachOut entry i (λ kept loaded chains. ForSome b.files (IsDoomedOut kept.state kept.layout kept.number kept.object loaded chains kept.unlinked i))) → ForSome b.files (IsDoomedUncounted state layout unlinked number object loaded from)
     held-doomed dooms image is =
         let d : IsDoomedOut state layout number object loaded chains unlinked held-on.image image = dooms held-on.image held-on.is state layout number object loaded chains unlinked held-whole image is in
         record {
@@ -269,7 +269,7 @@ module _ (a m b : Told) (state : State) (layout : Layout) (unlinked : List ℕ) 
           session = then-session from held-on.image image (taken-session node entry before from held-on.image t) d.session;
         }
 
-    pub held-stops : ForSome m.files (λ i. ForEachOut entry i (λ state layout number object loaded chains unlinked. Passes m b (Finds (rest (doomed number state (Some object)))))) → Passes a b (FindsEither state (doomed number state (Some object)))
+    pub held-stops : ForSome m.files (λ i. ForEachOut entry i (λ kept loaded chains. Passes m b (Finds (rest (doomed kept.number kept.state (Some kept.object)))))) → Passes a b (FindsEither state (doomed number state (Some object)))
     held-stops passes = passes_then held-taking (passes_weaker (passes held-on.image held-on.is state layout number object loaded chains unlinked held-whole) (λ image found. inr found) (λ image found. inr found))
 
 -- ---- counted no longer

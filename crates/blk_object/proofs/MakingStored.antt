@@ -68,7 +68,7 @@ made-outside files n kind a b first is steps from there image now =
     (λ other here. subst (λ (i : Image). P (after (making n) i)) (some_inj (sym there ∙ here)) (after_making files kind from is n (first from there) P (done_outside files kind from is n (first from there))))
     image now
 
--- one after another
+-- two changes after one another, each of which keeps the counters
 pub counters-then : (from mid image : Image) → SameCounters from mid → SameCounters mid image → SameCounters from image
 counters-then from mid image a b = b ∙ a
 

@@ -29,7 +29,7 @@ use Rattle.blk_lru.specs.Nodes.{link_at}
 use Rattle.blk_ranges.specs.ChildNames.{name_within}
 use Rattle.blk_ranges.specs.declared.names.ChildName.{ChildName}
 use Rattle.blk_ranges.proofs.Spelling.{joined}
-use Rattle.blk_object.specs.ListedParts.{LoadsAt, number_said, part_loaded, part_number}
+use Rattle.blk_object.specs.ListedParts.{LoadsAt, number_said, part_loaded, number_of_role}
 use Rattle.blk_object.specs.Owning.{LoadsWith}
 use Rattle.blk_object.proofs.OwnedCharges.{key-length}
 
@@ -93,52 +93,52 @@ record-named files image node loaded agrees at = load-then (store_of image) at.r
 
 -- ---- the role of a record
 
-no-part : (key : List ℕ) (index : Option ParentIndex) (len : ℕ) (role : Role) → option_and_then (λ (x : ParentIndex). if x.key_len == len then Some (IsParent x) else None) index ≡ Some role → part_number key role ≡ None
+no-part : (key : List ℕ) (index : Option ParentIndex) (len : ℕ) (role : Role) → option_and_then (λ (x : ParentIndex). if x.key_len == len then Some (IsParent x) else None) index ≡ Some role → number_of_role key role ≡ None
 no-part key None len role e = absurd (none-some e)
 no-part key (Some x) len role e = go (x.key_len == len) e where
-  go : (b : Bool) → (if b then Some (IsParent x) else None) ≡ Some role → part_number key role ≡ None
-  go true h = subst (λ (r : Role). part_number key r ≡ None) (some_inj h) refl
+  go : (b : Bool) → (if b then Some (IsParent x) else None) ≡ Some role → number_of_role key role ≡ None
+  go true h = subst (λ (r : Role). number_of_role key r ≡ None) (some_inj h) refl
   go false h = absurd (none-some h)
 
-parent-is-none : (key : List ℕ) (e : RecordFields) (streams : List (List ℕ)) (role : Role) → parent_role e streams ≡ Some role → part_number key role ≡ None
+parent-is-none : (key : List ℕ) (e : RecordFields) (streams : List (List ℕ)) (role : Role) → parent_role e streams ≡ Some role → number_of_role key role ≡ None
 unfolding parent_role
 parent-is-none key e streams role is = go (length (stream 1 streams) == 0) is where
-  go : (b : Bool) → (if not b then None else option_and_then (λ (x : ParentIndex). if x.key_len == e.key_len then Some (IsParent x) else None) (read_parent_index (stream 2 streams))) ≡ Some role → part_number key role ≡ None
+  go : (b : Bool) → (if not b then None else option_and_then (λ (x : ParentIndex). if x.key_len == e.key_len then Some (IsParent x) else None) (read_parent_index (stream 2 streams))) ≡ Some role → number_of_role key role ≡ None
   go true h = no-part key (read_parent_index (stream 2 streams)) e.key_len role h
   go false h = absurd (none-some h)
 
 named-part : (key : List ℕ) (size : ℕ) (name : Option Name) (index : Option PartIndex) (role : Role)
-    → option_and_then (λ (n : Name). option_and_then (λ (x : PartIndex). if (x.signature == n.signature) && (x.key_len == length n.key) && is_covered x size then Some (IsPart n x) else None) index) name ≡ Some role → part_number key role ≡ number_said key name
+    → option_and_then (λ (n : Name). option_and_then (λ (x : PartIndex). if (x.signature == n.signature) && (x.key_len == length n.key) && is_covered x size then Some (IsPart n x) else None) index) name ≡ Some role → number_of_role key role ≡ number_said key name
 named-part key size None index role e = absurd (none-some e)
 named-part key size (Some n) None role e = absurd (none-some e)
 named-part key size (Some n) (Some x) role e = go ((x.signature == n.signature) && (x.key_len == length n.key) && is_covered x size) e where
-  go : (b : Bool) → (if b then Some (IsPart n x) else None) ≡ Some role → part_number key role ≡ number_said key (Some n)
-  go true h = subst (λ (r : Role). part_number key r ≡ number_said key (Some n)) (some_inj h) refl
+  go : (b : Bool) → (if b then Some (IsPart n x) else None) ≡ Some role → number_of_role key role ≡ number_said key (Some n)
+  go true h = subst (λ (r : Role). number_of_role key r ≡ number_said key (Some n)) (some_inj h) refl
   go false h = absurd (none-some h)
 
-part-is-named : (key name : List ℕ) (streams : List (List ℕ)) (role : Role) → part_role name streams ≡ Some role → part_number key role ≡ number_said key (read_name name)
+part-is-named : (key name : List ℕ) (streams : List (List ℕ)) (role : Role) → part_role name streams ≡ Some role → number_of_role key role ≡ number_said key (read_name name)
 unfolding part_role
 part-is-named key name streams role is = go (length (stream 0 streams) == 0) (nat_lt 1048576 (length (stream 1 streams))) is where
   go : (b c : Bool) → (if not b then None else if c then None else option_and_then (λ (n : Name). option_and_then (λ (x : PartIndex). if (x.signature == n.signature) && (x.key_len == length n.key) && is_covered x (length (stream 1 streams)) then Some (IsPart n x) else None) (read_part_index (stream 2 streams))) (read_name name)) ≡ Some role
-      → part_number key role ≡ number_said key (read_name name)
+      → number_of_role key role ≡ number_said key (read_name name)
   go true false h = named-part key (length (stream 1 streams)) (read_name name) (read_part_index (stream 2 streams)) role h
   go true true h = absurd (none-some h)
   go false c h = absurd (none-some h)
 
 -- the role of a record that isn't flagged as a part's
-pub other-role : (key : List ℕ) (e : RecordFields) (name : List ℕ) (streams : List (List ℕ)) (role : Role) → role_of e name streams ≡ Some role → (e.flags == child) ≡ false → part_number key role ≡ None
+pub other-role : (key : List ℕ) (e : RecordFields) (name : List ℕ) (streams : List (List ℕ)) (role : Role) → role_of e name streams ≡ Some role → (e.flags == child) ≡ false → number_of_role key role ≡ None
 unfolding role_of
 other-role key e name streams role is other = go (e.flags == parent) (e.flags == child) other is where
-  go : (b c : Bool) → c ≡ false → (if b then parent_role e streams else if c then part_role name streams else Some IsPlain) ≡ Some role → part_number key role ≡ None
+  go : (b c : Bool) → c ≡ false → (if b then parent_role e streams else if c then part_role name streams else Some IsPlain) ≡ Some role → number_of_role key role ≡ None
   go true c f h = parent-is-none key e streams role h
-  go false false f h = subst (λ (r : Role). part_number key r ≡ None) (some_inj h) refl
+  go false false f h = subst (λ (r : Role). number_of_role key r ≡ None) (some_inj h) refl
   go false true f h = absurd (let z : true ≡ false = f in cc)
 
 -- the role of a record that is flagged as a part's
-pub its-role : (key : List ℕ) (e : RecordFields) (name : List ℕ) (streams : List (List ℕ)) (role : Role) → role_of e name streams ≡ Some role → (e.flags == child) ≡ true → part_number key role ≡ number_said key (read_name name)
+pub its-role : (key : List ℕ) (e : RecordFields) (name : List ℕ) (streams : List (List ℕ)) (role : Role) → role_of e name streams ≡ Some role → (e.flags == child) ≡ true → number_of_role key role ≡ number_said key (read_name name)
 unfolding role_of
 its-role key e name streams role is its = go (e.flags == parent) (e.flags == child) (ap (λ (w : ℕ). w == parent) (eqb-true e.flags child its)) its is where
-  go : (b c : Bool) → b ≡ false → c ≡ true → (if b then parent_role e streams else if c then part_role name streams else Some IsPlain) ≡ Some role → part_number key role ≡ number_said key (read_name name)
+  go : (b c : Bool) → b ≡ false → c ≡ true → (if b then parent_role e streams else if c then part_role name streams else Some IsPlain) ≡ Some role → number_of_role key role ≡ number_said key (read_name name)
   go false true f t h = part-is-named key name streams role h
   go false false f t h = absurd (let z : false ≡ true = t in cc)
   go true c f t h = absurd (let z : true ≡ false = f in cc)
@@ -149,7 +149,7 @@ pub head-flags : (image : Image) (entry : ℕ) (head : Head) (e : RecordFields) 
 head-flags image entry head e is here = sym (ap (λ (x : RecordFields). x.flags) (shown-fields image entry e here)) ∙ sym is.flags
 
 -- a record that isn't flagged as a part's is none
-pub not-a-part : (key : List ℕ) (image : Image) (entry : ℕ) (head : Head) (loaded : Loaded) → IsRecordHead image entry head → LoadsWith entry loaded image → head.flags ≢ 2 → part_number key loaded.role ≡ None
+pub not-a-part : (key : List ℕ) (image : Image) (entry : ℕ) (head : Head) (loaded : Loaded) → IsRecordHead image entry head → LoadsWith entry loaded image → head.flags ≢ 2 → number_of_role key loaded.role ≡ None
 not-a-part key image entry head loaded is with_record differs = load-then (store_of image) with_record.rule with_record.node loaded with_record.loads (λ n e f.
     let here : (store_of image).entry entry ≡ Some e = ap (store_of image).entry (sym with_record.contents ∙ f.facts.contents_is) ∙ f.entry in
     let flags = head-flags image entry head e is here in
@@ -187,7 +187,7 @@ all-piece key old new n room piece =
 
 -- the number that its name says is that of the part
 pub part-read : (key : List ℕ) (image : Image) (entry : ℕ) (head : Head) (loaded : Loaded) (old new : List ℕ) (len : ℕ) → IsRecordHead image entry head → LoadsWith entry loaded image → head.flags ≡ 2 → 32796 ≤ length old
-    → ((stored : List ℕ) → key_at image entry ≡ Some stored → IsPiece stored 0 old new len) → number_said key (read_name (take len new)) ≡ part_number key loaded.role
+    → ((stored : List ℕ) → key_at image entry ≡ Some stored → IsPiece stored 0 old new len) → number_said key (read_name (take len new)) ≡ number_of_role key loaded.role
 part-read key image entry head loaded old new len is with_record flag room piece = load-then (store_of image) with_record.rule with_record.node loaded with_record.loads (λ n e f.
     let here : (store_of image).entry entry ≡ Some e = ap (store_of image).entry (sym with_record.contents ∙ f.facts.contents_is) ∙ f.entry in
     let flags = head-flags image entry head e is here in
@@ -197,9 +197,9 @@ part-read key image entry head loaded old new len is with_record flag room piece
 
 -- ---- the part at a node
 
-pub part-some : (key : List ℕ) (node entry number : ℕ) (loaded : Loaded) → Some number ≡ part_number key loaded.role → loaded.contents ≡ entry → Some (record { node = node; entry = entry; number = number }) ≡ part_loaded key node loaded
+pub part-some : (key : List ℕ) (node entry number : ℕ) (loaded : Loaded) → Some number ≡ number_of_role key loaded.role → loaded.contents ≡ entry → Some (record { node = node; entry = entry; number = number }) ≡ part_loaded key node loaded
 part-some key node entry number loaded is contents =
     ap (λ (w : ℕ). Some (record { node = node; entry = w; number = number })) (sym contents) ∙ ap (λ (o : Option ℕ). option_map (λ (n : ℕ). record { node = node; entry = loaded.contents; number = n }) o) is
 
-pub part-none : (key : List ℕ) (node : ℕ) (loaded : Loaded) → None ≡ part_number key loaded.role → None ≡ part_loaded key node loaded
+pub part-none : (key : List ℕ) (node : ℕ) (loaded : Loaded) → None ≡ number_of_role key loaded.role → None ≡ part_loaded key node loaded
 part-none key node loaded is = ap (λ (o : Option ℕ). option_map (λ (n : ℕ). record { node = node; entry = loaded.contents; number = n }) o) is

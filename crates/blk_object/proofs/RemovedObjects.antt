@@ -67,7 +67,7 @@ module _ (state : State) (layout : Layout) (unlinked : List ℕ) (objects : List
         by (inr (inl r)) = inr ((unlinking-finds state layout unlinked objects keep item p.was from r.between image k.entries p.without r.here r.unlisted).0 r.unlinking)
         by (inr (inr r)) = inr ((unlinking-finds state layout unlinked objects keep item p.was from r.between image k.entries p.without r.here r.unlisted).1 r.unlinking)
 
-  -- once it is
+  -- once the item is taken out of list and chain
   module _ (mid : Image) (t : IsTakenOut node entry before from mid) where
     removed : IsRemoved layout item p.was from mid
     removed = taken.taken-removed state layout unlinked item p.was before from mid k.entries p.lies
@@ -86,11 +86,11 @@ module _ (state : State) (layout : Layout) (unlinked : List ℕ) (objects : List
       pub words-may : AreFreeable words mid
       words-may = freed.freeable after (layout_removed layout node entry) words unlinked mid kept-mid
 
-      -- while they are
+      -- while the item's addresses are being freed
       pub freeing-either : (image : Image) → AreGoing words mid image → FindsEither state after image
       freeing-either image going = inr (freed.going-finds words mid image going after (layout_removed layout node entry) unlinked kept-mid)
 
-      -- once they are
+      -- once the item's addresses are freed
       one-less : IsOneItemLess state after layout (layout_removed layout node entry) (charge_of p.was)
       one-less =
           let l = removed-less state layout unlinked objects keep item p.was from k.entries p.without p.lies.here in
@@ -108,7 +108,7 @@ module _ (state : State) (layout : Layout) (unlinked : List ℕ) (objects : List
 pub counting-either : (state after : State) (layout : Layout) (unlinked : List ℕ) (node entry charge : ℕ) (mid image : Image) → IsGoneUncounted state after layout unlinked node entry charge mid → KeepsWith [] [] mid image → FindsEither state after image
 counting-either state after layout unlinked node entry charge mid image g keeps = inr (then-found [] [] mid image keeps after (layout_removed layout node entry) unlinked g.kept)
 
--- once it is
+-- once the removed item is counted
 pub removed-whole : (state after : State) (layout : Layout) (unlinked : List ℕ) (node entry charge : ℕ) (mid image : Image) → IsGoneUncounted state after layout unlinked node entry charge mid → AreCountedLess charge mid image → IsRemovedWhole after layout unlinked node entry image
 removed-whole state after layout unlinked node entry charge mid image g counted =
     less-counted state after layout (layout_removed layout node entry) unlinked charge mid image g.counters g.less g.kept counted

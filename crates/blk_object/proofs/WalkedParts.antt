@@ -24,7 +24,7 @@ use Rattle.law_state.specs.PartlyOut.{KeepsPartlyOut}
 use Rattle.law_state.proofs.Groups as groups
 use Rattle.blk_lru.specs.Lists.{IsListAtRest, IsListed, first_node_of}
 use Rattle.blk_object.specs.declared.listed_parts.ListedPart.{ListedPart}
-use Rattle.blk_object.specs.ListedParts.{AreSearched, HaveNoPart, IsFirstPart, IsFoundPart, LoadsAt, first_node, is_part_of, number_said, part_loaded, part_number}
+use Rattle.blk_object.specs.ListedParts.{AreSearched, HaveNoPart, IsFirstPart, IsFoundPart, LoadsAt, first_node, is_part_of, number_said, part_loaded, number_of_role}
 use Rattle.blk_object.proofs.ChainsOut.{among-front}
 
 none-some : {A : Type 0} {x : A} → ◌≡◌ {A = Option A} None (Some x) → ⊥
@@ -134,7 +134,7 @@ pub own-number : (key : List ℕ) (n : ℕ) → item_number key (part key n) ≡
 unfolding item_number
 own-number key n = rw (bytes_eq_self key) refl
 
-pub role-number : (key stored : List ℕ) (streams : List (List ℕ)) (role : Role) (item : Item) → item_of (row_with stored role streams) ≡ item → part_number key role ≡ item_number key item
+pub role-number : (key stored : List ℕ) (streams : List (List ℕ)) (role : Role) (item : Item) → item_of (row_with stored role streams) ≡ item → number_of_role key role ≡ item_number key item
 unfolding item_number
 role-number key stored streams IsPlain item is = subst (λ (i : Item). None ≡ item_number key i) is refl
 role-number key stored streams (IsParent index) item is = subst (λ (i : Item). None ≡ item_number key i) is refl
@@ -156,7 +156,7 @@ its-part key (part other n) number is = go (bytes_eq other key) refl is where
   go true e h = ap (λ (k : List ℕ). part k n) (same_bytes other key e) ∙ ap (part key) (some_inj h)
   go false e h = absurd (none-some h)
 
-none-loaded : (key : List ℕ) (node : ℕ) (loaded : Loaded) (o : Option ℕ) → part_number key loaded.role ≡ o → None ≡ part_loaded key node loaded → o ≡ None
+none-loaded : (key : List ℕ) (node : ℕ) (loaded : Loaded) (o : Option ℕ) → number_of_role key loaded.role ≡ o → None ≡ part_loaded key node loaded → o ≡ None
 none-loaded key node loaded None is e = refl
 none-loaded key node loaded (Some n) is e = let z : ◌≡◌ {A = Option ListedPart} None (Some (record { node = node; entry = loaded.contents; number = n })) = (rw is at e) in absurd (none-some z)
 
@@ -164,9 +164,9 @@ none-loaded key node loaded (Some n) is e = let z : ◌≡◌ {A = Option Listed
 record IsSaid (key : List ℕ) (node : ℕ) (loaded : Loaded) (found : ListedPart) : Type 0 where
   pub node_is : found.node ≡ node
   pub entry_is : found.entry ≡ loaded.contents
-  pub number_is : part_number key loaded.role ≡ Some found.number
+  pub number_is : number_of_role key loaded.role ≡ Some found.number
 
-some-loaded : (key : List ℕ) (node : ℕ) (loaded : Loaded) (found : ListedPart) (o : Option ℕ) → part_number key loaded.role ≡ o → Some found ≡ part_loaded key node loaded → IsSaid key node loaded found
+some-loaded : (key : List ℕ) (node : ℕ) (loaded : Loaded) (found : ListedPart) (o : Option ℕ) → number_of_role key loaded.role ≡ o → Some found ≡ part_loaded key node loaded → IsSaid key node loaded found
 some-loaded key node loaded found None is e = let z : ◌≡◌ {A = Option ListedPart} (Some found) None = (rw is at e) in absurd (none-some (sym z))
 some-loaded key node loaded found (Some n) is e =
     let z : ◌≡◌ {A = Option ListedPart} (Some found) (Some (record { node = node; entry = loaded.contents; number = n })) = (rw is at e) in
@@ -214,7 +214,7 @@ module _ (state : State) (layout : Layout) (keep : Item → Bool) (chains : ℕ 
   pub step-loads : (loaded : Loaded) × LoadsAt node loaded image
   step-loads = (placed.loaded, step-at)
 
-  number-is : part_number key placed.loaded.role ≡ item_number key it.item
+  number-is : number_of_role key placed.loaded.role ≡ item_number key it.item
   number-is = role-number key placed.loaded.key placed.loaded.streams placed.loaded.role it.item (item-row state it.item (row_with placed.loaded.key placed.loaded.role placed.loaded.streams) placed.row)
 
   pub step-listed : IsListed node image
@@ -227,7 +227,7 @@ module _ (state : State) (layout : Layout) (keep : Item → Bool) (chains : ℕ 
     passed = w.passed ++ it.item ∷ [];
     left = it.behind;
     split = w.split ∙ ap (λ (xs : List Item). w.passed ++ xs) it.left_is ∙ sym (append_assoc w.passed (it.item ∷ []) it.behind);
-    none = all-append key w.passed it.item w.none (not-a-part key it.item (sym number-is ∙ none-loaded key node placed.loaded (part_number key placed.loaded.role) refl (nothing placed.loaded step-at)));
+    none = all-append key w.passed it.item w.none (not-a-part key it.item (sym number-is ∙ none-loaded key node placed.loaded (number_of_role key placed.loaded.role) refl (nothing placed.loaded step-at)));
     next_is = starts-behind layout all w.before it.behind it.item node image k.list whole-is it.place next h;
     many = let one = length-append w.passed (it.item ∷ []) in let many = w.many in omega (arith, one, many);
     before = w.before ++ it.item ∷ [];
@@ -238,7 +238,7 @@ module _ (state : State) (layout : Layout) (keep : Item → Bool) (chains : ℕ 
   -- where the item at the next node is a part of the key, it is the first one
   pub step-finds : (found : ListedPart) → ((loaded : Loaded) → LoadsAt node loaded image → Some found ≡ part_loaded key node loaded) → IsFirstPart layout key items found
   step-finds found is =
-      let said = some-loaded key node placed.loaded found (part_number key placed.loaded.role) refl (is placed.loaded step-at) in
+      let said = some-loaded key node placed.loaded found (number_of_role key placed.loaded.role) refl (is placed.loaded step-at) in
       let same : it.item ≡ part key found.number = its-part key it.item found.number (sym number-is ∙ said.number_is) in
       record {
         passed = w.passed;

@@ -249,7 +249,7 @@ module _ (state after : State) (layout : Layout) (node : ℕ) (was : Loaded) (i 
           let kept_so : KeepsUncounted after (layout_after layout node named-now) ((old ∷ []) ++ unlinked) named = subst (λ (ws : List ℕ). KeepsUncounted after (layout_after layout node named-now) (ws ++ unlinked) named) (nonzero-some old some) named-is.kept in
           subst (λ (rows : List Row). Finds rows image) same-rest (going-finds (old ∷ []) named image going after (layout_after layout node named-now) unlinked kept_so)
 
-      -- once it is
+      -- once the record names the new place
       named-session : SameSession from named
       named-session = session-then from filled named taken.0.session
           (items.only state layout (long_word place ++ unlinked) filled kept-filled node was m.lies files stands_files i few 0 (inl refl) (λ some. absurd (some refl)) named (nothing-at 0 was.contents i filled named names.names.same) (sealed-checks (entry_at named was.contents) names.sealed) (λ file. names.names.same.files file refl)).session

@@ -16,6 +16,7 @@ use Rattle.law_state.specs.DoomLaws.{CanBeDoomed, layout_doomed}
 use Rattle.law_state.specs.HeldPartlyOut.{IsHeldOut}
 use Rattle.law_state.specs.Keeping.{KeepsUncounted}
 use Rattle.law_state.specs.PartlyOut.{KeepsPartlyOut}
+use Rattle.blk_object.specs.KeptObjects.{KeptObject}
 use Rattle.blk_object.specs.RemovingFound.{LiesAsFound}
 
 -- the offset of the state word in a record
@@ -39,10 +40,10 @@ pub record IsOutWhole (state : State) (layout : Layout) (number : ℕ) (object :
   pub entry_is : loaded.contents ≡ entry
 
 -- P holds of each object that a handle names whose items are out of list and chains and whose record is at address `entry`
-abbrev pub ForEachOut : (entry : ℕ) → Image → (State → Layout → ℕ → Object → Loaded → (chains : ℕ → List ℕ) → List ℕ → Type 0) → Type 0
+abbrev pub ForEachOut : (entry : ℕ) → Image → (KeptObject → Loaded → (chains : ℕ → List ℕ) → Type 0) → Type 0
 ForEachOut entry from P =
     (state : State) (layout : Layout) (number : ℕ) (object : Object) (loaded : Loaded) (chains : ℕ → List ℕ) (unlinked : List ℕ) → IsOutWhole state layout number object loaded chains unlinked entry from
-    → P state layout number object loaded chains unlinked
+    → P (record { state = state; layout = layout; unlinked = unlinked; number = number; object = object }) loaded chains
 
 -- the object loads as a doomed one, and neither the counters of the index nor its session have changed
 pub record IsDoomedOut (state : State) (layout : Layout) (number : ℕ) (object : Object) (loaded : Loaded) (chains : ℕ → List ℕ) (unlinked : List ℕ) (from image : Image) : Type 0 where
@@ -54,11 +55,11 @@ pub record IsDoomedOut (state : State) (layout : Layout) (number : ℕ) (object 
 
 -- P holds of each object without parts that can be doomed and whose main item has this node and this record, wherever a folder keeps a state (but for the
 -- counters)
-abbrev pub ForEachHeld : (node entry : ℕ) (before : Option ℕ) → Image → (State → Layout → List ℕ → ℕ → Object → Loaded → Type 0) → Type 0
+abbrev pub ForEachHeld : (node entry : ℕ) (before : Option ℕ) → Image → (KeptObject → Loaded → Type 0) → Type 0
 ForEachHeld node entry before from P =
     (state : State) (layout : Layout) (unlinked : List ℕ) (number : ℕ) (object : Object) (loaded : Loaded)
     → KeepsUncounted state layout unlinked from → CanBeDoomed state layout number object loaded → LiesAsFound state layout object.key node entry before
-    → P state layout unlinked number object loaded
+    → P (record { state = state; layout = layout; unlinked = unlinked; number = number; object = object }) loaded
 
 -- the layout in which the object without parts is doomed: its node is that of a doomed object
 abbrev pub layout_held : Layout → ℕ → Object → Loaded → Layout

@@ -2,6 +2,7 @@ pub mod KeptBlocks
 pub mod KeptExternalFiles
 pub mod KeptLists
 pub mod KeptMarks
+pub mod KeptObjects
 pub mod KeptEntries
 pub mod KeptChains
 pub mod Making

@@ -49,10 +49,10 @@ number_said key None = None
 number_said key (Some name) = if bytes_eq name.key key then Some name.part else None
 
 -- the number of the part of `key` that an entry of this role is, or None where it is none
-abbrev pub part_number : List ℕ → Role → Option ℕ
-part_number key IsPlain = None
-part_number key (IsParent index) = None
-part_number key (IsPart name index) = number_said key (Some name)
+abbrev pub number_of_role : List ℕ → Role → Option ℕ
+number_of_role key IsPlain = None
+number_of_role key (IsParent index) = None
+number_of_role key (IsPart name index) = number_said key (Some name)
 
 -- the record at address `entry` has as its key the name of part `number` of `key`
 abbrev pub SaysPart : (entry : ℕ) (key : List ℕ) (number : ℕ) → Image → Type 0
@@ -60,7 +60,7 @@ SaysPart entry key number image = number_said key (read_name (key_bytes image en
 
 -- the part of `key` that the node has, by what is loaded there, or None where it has none
 abbrev pub part_loaded : List ℕ → ℕ → Loaded → Option ListedPart
-part_loaded key node loaded = option_map (λ number. record { node = node; entry = loaded.contents; number = number }) (part_number key loaded.role)
+part_loaded key node loaded = option_map (λ number. record { node = node; entry = loaded.contents; number = number }) (number_of_role key loaded.role)
 
 -- the record of the part is the one that its node names
 abbrev pub IsAtItsNode : Told → ListedPart → Type 0

@@ -13,6 +13,7 @@ use Rattle.law_state.specs.Keeping.{KeepsUncounted}
 use Rattle.law_state.specs.PartlyOut.{KeepsPartlyOut, chains_but, keeps_but}
 use Rattle.law_state.specs.PartlyOutStops.{LeavesOtherKeys}
 use Rattle.blk_object.specs.Freeing.{AreGoing}
+use Rattle.blk_object.specs.KeptObjects.{KeptObject}
 use Rattle.blk_object.specs.Removing.{IsGoingOut}
 use Rattle.blk_object.specs.RemovingFound.{LiesAsFound}
 use Rattle.blk_object.specs.RemovingNext.{CountsLeft}
@@ -26,20 +27,29 @@ pub record LiesNext (state : State) (layout : Layout) (keep : Item → Bool) (ch
   pub node_is : layout.place item ≡ node
   pub entry_is : was.contents ≡ entry
 
+-- an item of a state of which those that aren't in `keep` are out, with the layout, the chains and the unlinked addresses with which the folder keeps it so
+pub record NextItem : Type 0 where
+  pub state : State
+  pub layout : Layout
+  pub keep : Item → Bool
+  pub chains : ℕ → List ℕ
+  pub unlinked : List ℕ
+  pub item : Item
+
 -- P holds of each item with this node, this record and this record before it in its chain, wherever a folder keeps a state with some other items out, or none
-abbrev pub ForEachNext : (node entry : ℕ) (before : Option ℕ) → Image → (State → Layout → (keep : Item → Bool) → (chains : ℕ → List ℕ) → List ℕ → Item → Type 0) → Type 0
+abbrev pub ForEachNext : (node entry : ℕ) (before : Option ℕ) → Image → (NextItem → Type 0) → Type 0
 ForEachNext node entry before from P =
     (state : State) (layout : Layout) (keep : Item → Bool) (chains : ℕ → List ℕ) (unlinked : List ℕ) (item : Item)
     → KeepsPartlyOut state layout keep chains unlinked from → LiesNext state layout keep chains item node entry before
-    → P state layout keep chains unlinked item
+    → P (record { state = state; layout = layout; keep = keep; chains = chains; unlinked = unlinked; item = item })
 
 -- P holds of each live object whose main item has this node, this record and this record before it in its chain, wherever a folder keeps a state (but for the
 -- counters)
-abbrev pub ForEachMain : (node entry : ℕ) (before : Option ℕ) → Image → (State → Layout → List ℕ → ℕ → Object → Loaded → Type 0) → Type 0
+abbrev pub ForEachMain : (node entry : ℕ) (before : Option ℕ) → Image → (KeptObject → Loaded → Type 0) → Type 0
 ForEachMain node entry before from P =
     (state : State) (layout : Layout) (unlinked : List ℕ) (number : ℕ) (object : Object)
     → KeepsUncounted state layout unlinked from → object_at state number ≡ Some object → object.live ≡ true → (lies : LiesAsFound state layout object.key node entry before)
-    → P state layout unlinked number object lies.was
+    → P (record { state = state; layout = layout; unlinked = unlinked; number = number; object = object }) lies.was
 
 -- P holds of each object of which a part has this node, this record and this record before it in its chain, wherever its main item is out, and perhaps other
 -- parts
@@ -78,6 +88,6 @@ pub record IsBeingFreed (state : State) (layout : Layout) (keep : Item → Bool)
   pub out : KeepsPartlyOut state layout (keeps_but keep item) (chains_but chains entry) (words ++ unlinked) mid
   pub going : AreGoing words mid image
 
--- nothing has changed, or the item is leaving list and chain, or it is out and its addresses are being freed
-abbrev pub IsGoingNext : State → Layout → (keep : Item → Bool) → (chains : ℕ → List ℕ) → List ℕ → Item → (node entry : ℕ) (before : Option ℕ) → (from image : Image) → Type 0
-IsGoingNext state layout keep chains unlinked item node entry before from image = (image ≡ from) ⊎ (IsGoingOut node entry before from image ⊎ IsBeingFreed state layout keep chains unlinked item entry image)
+-- nothing has changed, or the item is leaving list and chain, or it is out and its addresses are being freed, as `being_freed` says
+abbrev pub IsGoingNext : (node entry : ℕ) (before : Option ℕ) → (being_freed : Image → Type 0) → (from image : Image) → Type 0
+IsGoingNext node entry before being_freed from image = (image ≡ from) ⊎ (IsGoingOut node entry before from image ⊎ being_freed image)

@@ -55,7 +55,7 @@ IsGoingOut node entry before from image = IsPartly from (writes_of remove node (
 abbrev pub TakesOut : (old new : Told) → (node : ℕ) → Found → Type 0
 TakesOut old new node found = LeavesWhere old new (MayGoOut node found.entry found.before) (IsTakenOut node found.entry found.before)
 
--- before each step and after the last they are being removed, if they may
+-- before each step and after the last the node and the record are being removed, if they may be
 abbrev pub StopsTakingOut : (old new : Told) → (node : ℕ) → Found → Type 0
 StopsTakingOut old new node found = StopsWhere old new (MayGoOut node found.entry found.before) (IsGoingOut node found.entry found.before)
 

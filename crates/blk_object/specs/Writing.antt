@@ -28,6 +28,7 @@ use Rattle.std.specs.Option.{ForSome}
 use Rattle.spec_image.specs.Told.{Passes, Told}
 use Rattle.blk_model.specs.Holding.{rest}
 use Rattle.blk_io.specs.declared.fault.Fault.{Fault}
+use Rattle.blk_object.specs.KeptObjects.{KeptObject}
 
 -- Preconditions.
 
@@ -176,19 +177,21 @@ abbrev pub StopsWriting : (old new : Told) → Image → State → Layout → Li
 StopsWriting old new from state layout unlinked number object was = Passes old new (Finds (rest state))
 
 -- P holds of each part of a dirty live object that the write may be of
-abbrev pub ForPartUnsettled : Told → (entry at offset : ℕ) (cut : Bool) (bytes : List ℕ) → (Image → State → Layout → List ℕ → ℕ → Object → (n : ℕ) → PartValue → Loaded → Role → Type 0) → Type 0
-ForPartUnsettled told entry at offset cut bytes P = ForSome told.files (λ from. ForEachPartUnsettled entry at offset cut bytes from (P from))
+abbrev pub ForPartUnsettled : Told → (entry at offset : ℕ) (cut : Bool) (bytes : List ℕ) → (Image → KeptObject → (n : ℕ) → PartValue → Loaded → Role → Type 0) → Type 0
+ForPartUnsettled told entry at offset cut bytes P =
+    ForSome told.files (λ from. ForEachPartUnsettled entry at offset cut bytes from (λ state layout unlinked number object.
+    P from (record { state = state; layout = layout; unlinked = unlinked; number = number; object = object })))
 
 -- where there is a part of a dirty live object that the write may be of, Q holds
 abbrev pub WherePartUnsettled : Told → (entry at offset : ℕ) (cut : Bool) (bytes : List ℕ) → (Image → Type 0) → Type 0
-WherePartUnsettled told entry at offset cut bytes Q = ForPartUnsettled told entry at offset cut bytes (λ from state layout unlinked number object n value was role. Q from)
+WherePartUnsettled told entry at offset cut bytes Q = ForPartUnsettled told entry at offset cut bytes (λ from kept n value was role. Q from)
 
 -- the folder keeps the state with the part's new value, but for the counters
 abbrev pub WritesPartStream : (old new : Told) → (entry at offset : ℕ) (cut : Bool) (bytes : List ℕ) → Type 0
 WritesPartStream old new entry at offset cut bytes =
-    ForPartUnsettled old entry at offset cut bytes (λ from state layout unlinked number object n value was role.
-    ForSome new.files (IsPartWrittenUncounted state layout unlinked number object n value was role at offset cut bytes from))
+    ForPartUnsettled old entry at offset cut bytes (λ from kept n value was role.
+    ForSome new.files (IsPartWrittenUncounted kept.state kept.layout kept.unlinked kept.number kept.object n value was role at offset cut bytes from))
 
 -- at each step recovery gives the durable contents of the state before the write to a part
-abbrev pub StopsPartWriting : (old new : Told) → Image → State → Layout → List ℕ → ℕ → Object → (n : ℕ) → PartValue → Loaded → Role → Type 0
-StopsPartWriting old new from state layout unlinked number object n value was role = Passes old new (Finds (rest state))
+abbrev pub StopsPartWriting : (old new : Told) → Image → KeptObject → (n : ℕ) → PartValue → Loaded → Role → Type 0
+StopsPartWriting old new from kept n value was role = Passes old new (Finds (rest kept.state))

@@ -11,7 +11,7 @@ ghost use Rattle.blk_disk.specs.Open.{IsOpen};
 ghost use Rattle.blk_disk.specs.Tables.{Agrees, is_node_among, stands_among};
 ghost use Rattle.blk_entry.specs.Keys.{most_key};
 ghost use Rattle.blk_object.specs.FailedChecks.{IsFailedCheck};
-ghost use Rattle.blk_object.specs.ListedParts.{IsFoundPart, IsPartThere, SaysPart, first_node, number_said, part_loaded, part_number, ForLoadedAt, LoadsSomeAt, IsAtItsNode, ForSearch};
+ghost use Rattle.blk_object.specs.ListedParts.{IsFoundPart, IsPartThere, SaysPart, first_node, number_said, part_loaded, number_of_role, ForLoadedAt, LoadsSomeAt, IsAtItsNode, ForSearch};
 ghost use Rattle.blk_object.specs.ListWalks.{GoesTo, WalkEnds};
 ghost use Rattle.blk_object.specs.Owning.{ForLoaded, LoadsSomeWith};
 
@@ -168,7 +168,7 @@ fn number_of<F: Folder>(
     requires kind { kind_of entry ≡ blocks_256 }
     requires stands { IsTrue (stands_among files.now entry) }
     requires buffer { most_key ≤ length buffer.old }
-    ensures number { IfOk result (λ number. ForLoaded (F.told folder.old) entry (λ loaded. number ≡ part_number key.now loaded.role)) }
+    ensures number { IfOk result (λ number. ForLoaded (F.told folder.old) entry (λ loaded. number ≡ number_of_role key.now loaded.role)) }
     ensures small { IfOk result (λ number. IfSome number (λ n. n < part_count)) }
     ensures named { IfOk result (λ number. IfSome number (λ n. ForSome (F.told folder.old).files (SaysPart entry key.now n))) }
     ensures reads { ReadsOnly F.told F.faults folder.old folder.new (IfDevice result) }

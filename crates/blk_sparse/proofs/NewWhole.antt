@@ -155,20 +155,20 @@ module _ (a b : Told) (parent : ℕ) (child : ChildName) (name : List ℕ) (plac
         t : IsPartToBeListed state objects layout unlinked object.key child.part can.grows.parent.was seen l (mid2).0
         t = made.to-be-listed state layout unlinked number object node parent child name place piece from can small below are most places map first mid2.0 keeps writes.words_are few-items
 
-        module _ (e : Told) (list_stops : ForSome d.files (λ m. ForEachPartToBeListed places.places.entry places.places.node m (λ state objects layout unlinked key n was seen loaded. Passes d e (Finds (rest state))))) where
+        module _ (e : Told) (list_stops : ForSome d.files (λ m. ForEachPartToBeListed places.places.entry places.places.node m (λ part. Passes d e (Finds (rest part.state))))) where
           third-stops : Passes d e (Finds (rest state))
           third-stops = list_stops mid2.0 mid2.1 state objects layout unlinked key child.part was seen l t refl refl
 
           pub listing-finds : Passes a e (Finds (rest state))
           listing-finds = passes_then writing-finds third-stops
 
-          pub listing-untold : {A : Type 0} (r : Result A Fault) → ForSome d.files (λ m. ForEachPartToBeListed places.places.entry places.places.node m (λ state objects layout unlinked key n was seen loaded. IfDamaged r (λ _. d.files ≡ None))) → IfDamaged r (λ _. a.files ≡ None)
+          pub listing-untold : {A : Type 0} (r : Result A Fault) → ForSome d.files (λ m. ForEachPartToBeListed places.places.entry places.places.node m (λ part. IfDamaged r (λ _. d.files ≡ None))) → IfDamaged r (λ _. a.files ≡ None)
           listing-untold {A} r untold = if_damaged_weaker r (λ _. d.files ≡ None) (λ _. a.files ≡ None) (λ damage none. absurd (let z : ◌≡◌ {A = Option Image} None (Some mid2.0) = sym none ∙ mid2.1 in cc)) (untold mid2.0 mid2.1 state objects layout unlinked key child.part was seen l t refl refl)
 
           pub mid3 : (m : Image) × (e.files ≡ Some m)
           mid3 = told-mid d e mid2.0 mid2.1 third-stops
 
-          module _ (listed : ForSome d.files (λ m. ForEachPartToBeListed places.places.entry places.places.node m (λ state objects layout unlinked key n was seen loaded. ForSome e.files (IsPartListed state layout key n was seen loaded m))))
+          module _ (listed : ForSome d.files (λ m. ForEachPartToBeListed places.places.entry places.places.node m (λ part. ForSome e.files (IsPartListed part.state part.layout part.key part.n part.was part.seen part.loaded m))))
               (files : BlockFiles) (open_then : ForSome e.files (IsOpen files)) (tells : ForSome e.files AreBytes) where
             g : IsPartListed state layout object.key child.part can.grows.parent.was seen l (mid2).0 (mid3).0
             g = listed mid2.0 mid2.1 state objects layout unlinked key child.part was seen l t refl refl mid3.0 mid3.1

@@ -36,7 +36,7 @@ use Rattle.blk_object.proofs.FreedPlaces.{all-counted, all-out, going-finds-doom
 use Rattle.blk_object.proofs.GoingNext.{main-going, main-leaves}
 use Rattle.blk_object.proofs.OwnedPlaces.{kept-load}
 use Rattle.blk_sparse.specs.Dropping.{AreGone, AreLeft, HasIndexedParts, HasNoBit, IsCalledOverPrefix, IsWholeDropped}
-use Rattle.blk_sparse.specs.Parents.{AreGoneBeside, IsGoneWhole, IsGroupTold, LiesAsParent, LoadsAsParent, MayGoWhole}
+use Rattle.blk_sparse.specs.Parents.{AreGoneBeside, IsGoneWhole, IsGroupTold, LiesAsParent, LoadsAsParent}
 use Rattle.blk_sparse.specs.declared.dropping.Gone.{Gone}
 use Rattle.blk_sparse.specs.declared.dropping.IndexedParts.{IndexedParts}
 
@@ -134,7 +134,7 @@ module _ {held : Bool} (state : State) (layout : Layout) (unlinked : List ℕ) (
       more xs n e = omega (arith, e)
 
 -- in the end an object that no handle names is removed
-pub gone-whole : (state : State) (layout : Layout) (unlinked : List ℕ) (number : ℕ) (object : Object) (key : List ℕ) (node entry : ℕ) (before : Option ℕ) (from : Image) (m : MayGoWhole state layout unlinked number object key node entry before from)
+pub gone-whole : (state : State) (layout : Layout) (unlinked : List ℕ) (number : ℕ) (object : Object) (key : List ℕ) (node entry : ℕ) (before : Option ℕ) (from : Image) (m : LiesAsParent false state layout unlinked number object key node entry before from)
     → (image : Image) → IsWholeDropped state layout unlinked key image → IsGoneWhole state layout unlinked number object image
 gone-whole state layout unlinked number object key node entry before from m image out = subst (λ (k : List ℕ). IsWholeDropped state layout unlinked k image → IsGoneWhole state layout unlinked number object image) m.of_key (λ (o : IsWholeDropped state layout unlinked object.key image).
     let valid = state_doomed state m.kept.entries.valid number object m.here m.live in

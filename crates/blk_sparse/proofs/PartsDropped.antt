@@ -69,7 +69,7 @@ module _ (E : Type 0) (call : E → ℕ → E → Type 0) (old now : Told) (stat
 
   -- one part more
   pub dropping-next : (new : Told) (signature : ℕ) (dropped : Dropped) (more : Gone) (then_is : E) → HasSignature layout key signature → more.items ≡ gone.items + 1 → more.bytes ≡ gone.bytes + dropped.charge → call last dropped.number then_is
-      → Passes now new (Finds (rest (doomed number state (Some object)))) → ForSome new.files (SameSession d.image) → ForSome new.files (KeepsUnlinked unlinked d.image) → ForSome new.files (IsDropOfNext state layout d.keeps unlinked key number object d.walked.is.front d.walked.is.items (Some dropped) d.image)
+      → Passes now new (Finds (rest (doomed number state (Some object)))) → ForSome new.files (SameSession d.image) → ForSome new.files (KeepsUnlinked unlinked d.image) → ForSome new.files (IsDropOfNext key d.walked.is.items (IsNextOut state layout d.keeps unlinked key number object d.walked.is.front d.walked.is.items) (Some dropped) d.image)
       → IsDropping E call old new state layout keep unlinked key number object from dropped.behind (turn + 1) more each then_is
   dropping-next new signature dropped more then_is sig items bytes step passes session keeps out =
       let mid = told_then now new d.image (Finds (rest (doomed number state (Some object)))) d.told passes in
@@ -105,7 +105,7 @@ module _ (E : Type 0) (call : E → ℕ → E → Type 0) (old now : Told) (stat
           omega (arith, one, two, three, four, turns)
 
   -- where a search finds none
-  pub dropped-none : (new : Told) → Passes now new (Finds (rest (doomed number state (Some object)))) → ForSome new.files (IsDropOfNext state layout d.keeps unlinked key number object d.walked.is.front d.walked.is.items None d.image) → HaveNoPart key d.walked.is.items
+  pub dropped-none : (new : Told) → Passes now new (Finds (rest (doomed number state (Some object)))) → ForSome new.files (IsDropOfNext key d.walked.is.items (IsNextOut state layout d.keeps unlinked key number object d.walked.is.front d.walked.is.items) None d.image) → HaveNoPart key d.walked.is.items
   dropped-none new passes none = let mid = told_then now new d.image (Finds (rest (doomed number state (Some object)))) d.told passes in (none mid.image mid.is).0
 
   -- where none is left
@@ -153,9 +153,9 @@ module _ (E : Type 0) (call : E → ℕ → E → Type 0) (old now : Told) (stat
       }
 
   -- where a search finds none
-  pub ends-none : (new : Told) (next : Option Dropped) → next ≡ None → Passes now new (Finds (rest (doomed number state (Some object)))) → ForSome new.files (IsDropOfNext state layout d.keeps unlinked key number object d.walked.is.front d.walked.is.items next d.image) → IsEnd new
+  pub ends-none : (new : Told) (next : Option Dropped) → next ≡ None → Passes now new (Finds (rest (doomed number state (Some object)))) → ForSome new.files (IsDropOfNext key d.walked.is.items (IsNextOut state layout d.keeps unlinked key number object d.walked.is.front d.walked.is.items) next d.image) → IsEnd new
   ends-none new next none passes h =
-      let drop : ForSome new.files (IsDropOfNext state layout d.keeps unlinked key number object d.walked.is.front d.walked.is.items None d.image) = λ image is. subst (λ (o : Option Dropped). IsDropOfNext state layout d.keeps unlinked key number object d.walked.is.front d.walked.is.items o d.image image) none (h image is) in
+      let drop : ForSome new.files (IsDropOfNext key d.walked.is.items (IsNextOut state layout d.keeps unlinked key number object d.walked.is.front d.walked.is.items) None d.image) = λ image is. subst (λ (o : Option Dropped). IsDropOfNext key d.walked.is.items (IsNextOut state layout d.keeps unlinked key number object d.walked.is.front d.walked.is.items) o d.image image) none (h image is) in
       end-of new (passes_then d.passes passes) (λ image is. (drop image is).1) (dropped-none new passes drop)
 
   -- and where all iterations are over

@@ -17,7 +17,7 @@ use Rattle.blk_object.specs.ListedParts.{ForEachSearch, HaveNoPart, IsFirstPart,
 use Rattle.blk_object.specs.declared.listed_parts.ListedPart.{ListedPart}
 use Rattle.blk_object.specs.UnlinkedLoads.{KeepsUnlinked}
 use Rattle.blk_object.proofs.WalkedParts.{listed-amid, rests-amid}
-use Rattle.blk_sparse.specs.Dropping.{AreLeft, IsBehind, IsDropOfNext, IsPartLeft, IsPartDropped}
+use Rattle.blk_sparse.specs.Dropping.{AreLeft, IsBehind, IsDropOfNext, IsNextOut, IsPartLeft, IsPartDropped}
 use Rattle.blk_sparse.proofs.Walking.{searched}
 
 or-true : (b : Bool) → (b || true) ≡ true
@@ -66,7 +66,7 @@ module _ (state : State) (layout : Layout) (keep : Item → Bool) (chains : ℕ 
     first-listed = listed-amid layout (filter keep state.uses) (is.front ++ first.passed) first.behind (part key found.number) found.node image left.kept.list whole first.node_is
 
     pub next-out : (charge : ℕ) (behind : Option ℕ) (now : Image) → charge ≡ charge_of first.was → ((prefix suffix : List ℕ) → HasListAtRest (prefix ++ found.node ∷ suffix) image → behind ≡ last_node_of prefix) → IsPartDropped state layout keep unlinked key number object found.number now
-        → IsDropOfNext state layout keep unlinked key number object is.front is.items (Some (record { number = found.number; charge = charge; behind = behind })) image now
+        → IsDropOfNext key is.items (IsNextOut state layout keep unlinked key number object is.front is.items) (Some (record { number = found.number; charge = charge; behind = behind })) image now
     next-out charge behind now charge_is last out = record {
       passed = first.passed;
       behind = first.behind;

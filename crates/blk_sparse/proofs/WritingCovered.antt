@@ -30,7 +30,7 @@ use Rattle.law_state.proofs.Keeping.{kept-held}
 use Rattle.blk_object.proofs.MakingStored.{counters-then}
 use Rattle.blk_object.proofs.MakingTaken.{session-then}
 use Rattle.blk_sparse.specs.SparseObjects.{CanGetParts, KeepsParent, KeepsParentThen, OthersLieAsBefore, missing_parts, parts_of, value_or_empty, with_bytes, with_bytes_written, with_piece, with_piece_written}
-use Rattle.blk_sparse.specs.Writing.{AreInOrder, IsPieceInOrder}
+use Rattle.blk_sparse.specs.Writing.{AreInOrder, IsPieceInOrder, kept_with_piece}
 use Rattle.blk_sparse.proofs.Begun.{object-valid}
 use Rattle.blk_sparse.proofs.NewMade.{set-self}
 use Rattle.blk_sparse.proofs.OthersLie.{others-of, others-same, others-then}
@@ -171,15 +171,15 @@ module _ (state : State) (layout : Layout) (unlinked : List ℕ) (number : ℕ) 
         (subst (λ (o : Object). KeepsParentThen (with_piece_written state number object n place bytes) layout unlinked number o node entry signature from image) (sym same) k)
 
     -- the one piece is written in order
-    pub order-one : (files : BlockFiles) (old new : Told) → old.files ≡ Some from → IsPieceInOrder files state layout unlinked number object entry signature n place bytes old new
-        → AreInOrder (covered_parts offset (length bytes)) state layout unlinked number object entry signature offset bytes old new
+    pub order-one : (files : BlockFiles) (old new : Told) → old.files ≡ Some from → IsPieceInOrder files (record { state = state; layout = layout; unlinked = unlinked; number = number; object = object }) entry signature n place bytes old new
+        → AreInOrder (covered_parts offset (length bytes)) (record { state = state; layout = layout; unlinked = unlinked; number = number; object = object }) entry signature offset bytes old new
     order-one files old new there o =
         let p = one-piece offset n place bytes at room in
         let kept : ForSome old.files (KeepsUncounted state layout unlinked) = λ image is. subst (KeepsUncounted state layout unlinked) (some_inj (sym there ∙ is)) can.parent.kept in
-        let piece : IsPieceInOrder files state layout unlinked number object entry signature n (offset - n * 1048576) (piece_for n offset bytes) old new =
-        subst (λ (q : ℕ). IsPieceInOrder files state layout unlinked number object entry signature n q (piece_for n offset bytes) old new) (sym p.inside)
-        (subst (λ (bs : List ℕ). IsPieceInOrder files state layout unlinked number object entry signature n place bs old new) (sym p.piece) o) in
-        subst (λ (ns : List ℕ). AreInOrder ns state layout unlinked number object entry signature offset bytes old new) (sym covers) (files, (new, (layout, (kept, (piece, refl)))))
+        let piece : IsPieceInOrder files (record { state = state; layout = layout; unlinked = unlinked; number = number; object = object }) entry signature n (offset - n * 1048576) (piece_for n offset bytes) old new =
+        subst (λ (q : ℕ). IsPieceInOrder files (record { state = state; layout = layout; unlinked = unlinked; number = number; object = object }) entry signature n q (piece_for n offset bytes) old new) (sym p.inside)
+        (subst (λ (bs : List ℕ). IsPieceInOrder files (record { state = state; layout = layout; unlinked = unlinked; number = number; object = object }) entry signature n place bs old new) (sym p.piece) o) in
+        subst (λ (ns : List ℕ). AreInOrder ns (record { state = state; layout = layout; unlinked = unlinked; number = number; object = object }) entry signature offset bytes old new) (sym covers) (files, (new, (layout, (kept, (piece, refl)))))
 
   module _ (covers : covered_parts offset (length bytes) ≡ n ∷ (n + 1) ∷ []) (left : ℕ) (rest_is : place + left ≡ 1048576) (most : length bytes ≤ 1048576) (front back : List ℕ) (is_front : front ≡ take left bytes) (is_back : back ≡ drop left bytes) where
     both : CanGetParts (n ∷ (n + 1) ∷ []) state layout unlinked number object node entry signature from
@@ -244,14 +244,14 @@ module _ (state : State) (layout : Layout) (unlinked : List ℕ) (number : ℕ) 
       -- both pieces are written in order
       abbrev TwoInOrder : (old new : Told) (p : ℕ) (fr : List ℕ) (q : ℕ) (bk : List ℕ) → Type 0
       TwoInOrder old new p fr q bk =
-          (files : BlockFiles) × ((between : Told) × ((now : Layout) × (ForSome old.files (KeepsUncounted state layout unlinked) × (IsPieceInOrder files state layout unlinked number object entry signature n p fr old between
-          × ((last_files : BlockFiles) × ((last : Told) × ((end : Layout) × (ForSome between.files (KeepsUncounted (with_piece_written state number object n p fr) now unlinked) × (IsPieceInOrder last_files (with_piece_written state number object n p fr) now unlinked number (with_piece object n p fr) entry signature (n + 1) q bk between last
+          (files : BlockFiles) × ((between : Told) × ((now : Layout) × (ForSome old.files (KeepsUncounted state layout unlinked) × (IsPieceInOrder files (record { state = state; layout = layout; unlinked = unlinked; number = number; object = object }) entry signature n p fr old between
+          × ((last_files : BlockFiles) × ((last : Told) × ((end : Layout) × (ForSome between.files (KeepsUncounted (with_piece_written state number object n p fr) now unlinked) × (IsPieceInOrder last_files (kept_with_piece (record { state = state; layout = layout; unlinked = unlinked; number = number; object = object }) now n p fr) entry signature (n + 1) q bk between last
           × (new ≡ last))))))))))
 
       pub order-two : (files last_files : BlockFiles) (old between new : Told) → old.files ≡ Some from → between.files ≡ Some mid
-          → IsPieceInOrder files state layout unlinked number object entry signature n place front old between
-          → IsPieceInOrder last_files (with_piece_written state number object n place front) k.now unlinked number (with_piece object n place front) entry signature (n + 1) 0 back between new
-          → AreInOrder (covered_parts offset (length bytes)) state layout unlinked number object entry signature offset bytes old new
+          → IsPieceInOrder files (record { state = state; layout = layout; unlinked = unlinked; number = number; object = object }) entry signature n place front old between
+          → IsPieceInOrder last_files (kept_with_piece (record { state = state; layout = layout; unlinked = unlinked; number = number; object = object }) k.now n place front) entry signature (n + 1) 0 back between new
+          → AreInOrder (covered_parts offset (length bytes)) (record { state = state; layout = layout; unlinked = unlinked; number = number; object = object }) entry signature offset bytes old new
       order-two files last_files old between new there mid_is first second =
           let p = two-pieces-are offset n place left bytes at rest_is most in
           let kept : ForSome old.files (KeepsUncounted state layout unlinked) = λ image is. subst (KeepsUncounted state layout unlinked) (some_inj (sym there ∙ is)) can.parent.kept in
@@ -262,10 +262,10 @@ module _ (state : State) (layout : Layout) (unlinked : List ℕ) (number : ℕ) 
           (subst (λ (bs : List ℕ). TwoInOrder old new place bs (offset - (n + 1) * 1048576) (piece_for (n + 1) offset bytes)) (is_front ∙ sym p.front)
           (subst (λ (q : ℕ). TwoInOrder old new place front q (piece_for (n + 1) offset bytes)) (sym p.behind)
           (subst (λ (bs : List ℕ). TwoInOrder old new place front 0 bs) (is_back ∙ sym p.back) both))) in
-          subst (λ (ns : List ℕ). AreInOrder ns state layout unlinked number object entry signature offset bytes old new) (sym covers) said
+          subst (λ (ns : List ℕ). AreInOrder ns (record { state = state; layout = layout; unlinked = unlinked; number = number; object = object }) entry signature offset bytes old new) (sym covers) said
 
 -- of no bytes nothing is written
-pub order-none : (state : State) (layout : Layout) (unlinked : List ℕ) (number : ℕ) (object : Object) (entry signature offset : ℕ) (bytes : List ℕ) (old : Told) → length bytes ≡ 0 → AreInOrder (covered_parts offset (length bytes)) state layout unlinked number object entry signature offset bytes old old
+pub order-none : (state : State) (layout : Layout) (unlinked : List ℕ) (number : ℕ) (object : Object) (entry signature offset : ℕ) (bytes : List ℕ) (old : Told) → length bytes ≡ 0 → AreInOrder (covered_parts offset (length bytes)) (record { state = state; layout = layout; unlinked = unlinked; number = number; object = object }) entry signature offset bytes old old
 unfolding covered_parts
 order-none state layout unlinked number object entry signature offset [] old none = refl
 order-none state layout unlinked number object entry signature offset (b ∷ bytes) old none = absurd (omega (arith, none))

@@ -45,12 +45,12 @@ module _ (state : State) (layout : Layout) (unlinked : List ℕ) (number : ℕ) 
 -- ---- the order of a piece
 
 module _ (files : BlockFiles) (state : State) (layout : Layout) (unlinked : List ℕ) (number : ℕ) (object : Object) (parent signature n place : ℕ) (piece : List ℕ) (old new : Told) where
-  pub in-order-there : (value : PartValue) → part_at object n ≡ Some value → (first : Told) → first ≡ old → IsDataBeforeMap state unlinked number object n place piece first new → IsPieceInOrder files state layout unlinked number object parent signature n place piece old new
+  pub in-order-there : (value : PartValue) → part_at object n ≡ Some value → (first : Told) → first ≡ old → IsDataBeforeMap state unlinked number object n place piece first new → IsPieceInOrder files (record { state = state; layout = layout; unlinked = unlinked; number = number; object = object }) parent signature n place piece old new
   in-order-there value has first stays o =
       subst (λ (p : Option PartValue). MatchOption p (IsWholeBeforeItsBit files state layout object.key (child_name object.key signature n) n parent old new) (λ v. IsDataBeforeMap state unlinked number object n place piece old new)) (sym has)
       (subst (λ (t : Told). IsDataBeforeMap state unlinked number object n place piece t new) stays o)
 
-  pub in-order-made : (key name : List ℕ) (other : ℕ) → part_at object n ≡ None → object.key ≡ key → other ≡ signature → name ≡ child_name key other n → (first : Told) → first ≡ old → IsWholeBeforeItsBit files state layout object.key name n parent first new → IsPieceInOrder files state layout unlinked number object parent signature n place piece old new
+  pub in-order-made : (key name : List ℕ) (other : ℕ) → part_at object n ≡ None → object.key ≡ key → other ≡ signature → name ≡ child_name key other n → (first : Told) → first ≡ old → IsWholeBeforeItsBit files state layout object.key name n parent first new → IsPieceInOrder files (record { state = state; layout = layout; unlinked = unlinked; number = number; object = object }) parent signature n place piece old new
   in-order-made key name other none of_key same named first stays o =
       subst (λ (p : Option PartValue). MatchOption p (IsWholeBeforeItsBit files state layout object.key (child_name object.key signature n) n parent old new) (λ v. IsDataBeforeMap state unlinked number object n place piece old new)) (sym none)
       (subst (λ (t : Told). IsWholeBeforeItsBit files state layout object.key (child_name object.key signature n) n parent t new) stays

@@ -15,6 +15,7 @@ use Rattle.law_state.specs.Changes.{SameCounters, SameSession}
 use Rattle.law_state.specs.Keeping.{KeepsUncounted}
 use Rattle.law_state.specs.ObjectLaws.{layout_after}
 use Rattle.law_state.specs.PartStates.{with_object}
+use Rattle.blk_object.specs.KeptObjects.{KeptObject}
 use Rattle.blk_sparse.specs.SparseObjects.{CanBecomeSparse}
 
 -- the change of a record that sets the flags of a parent
@@ -67,7 +68,8 @@ pub record HasParentLength (entry : ℕ) (image : Image) : Type 0 where
   pub short : (entry_at image entry).key_len ≤ longest_key
 
 -- P holds of each plain object that may become sparse and has this record, and of each generation with which these bytes are an index of it
-abbrev pub ForEachPlainWith : (bytes : List ℕ) (entry : ℕ) → Image → (State → Layout → List ℕ → ℕ → Object → (node signature : ℕ) → Type 0) → Type 0
+abbrev pub ForEachPlainWith : (bytes : List ℕ) (entry : ℕ) → Image → (KeptObject → (node signature : ℕ) → Type 0) → Type 0
 ForEachPlainWith bytes entry from P =
     (state : State) (layout : Layout) (unlinked : List ℕ) (number : ℕ) (object : Object) (node signature : ℕ)
-    → CanBecomeSparse state layout unlinked number object node entry from → signature < signatures → HasIndex signature (entry_at from entry).key_len bytes → P state layout unlinked number object node signature
+    → CanBecomeSparse state layout unlinked number object node entry from → signature < signatures → HasIndex signature (entry_at from entry).key_len bytes
+    → P (record { state = state; layout = layout; unlinked = unlinked; number = number; object = object }) node signature

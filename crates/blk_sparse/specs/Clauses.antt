@@ -20,21 +20,25 @@ use Rattle.spec_format.specs.Names.{Name}
 use Rattle.spec_format.specs.Sealed.{RecordChecks, record_range}
 use Rattle.spec_format.specs.SparseIndex.{ParentIndex, PartIndex, part_index_length}
 use Rattle.spec_folder.specs.Entries.{IsParent, IsPart, Role}
+use Rattle.spec_folder.specs.Found.{charge_of}
 use Rattle.spec_folder.specs.Layout.{Layout}
 use Rattle.spec_folder.specs.Loads.{Loaded}
 use Rattle.law_state.specs.Changes.{Finds, SameSession}
 use Rattle.law_state.specs.PartStates.{with_object}
 use Rattle.blk_chain.specs.declared.found.Found.{Found}
 use Rattle.blk_disk.specs.declared.tables.BlockFiles.{BlockFiles}
-use Rattle.blk_disk.specs.Tables.{stands_among}
+use Rattle.blk_disk.specs.Tables.{Agrees, stands_among}
 use Rattle.blk_object.specs.declared.listed_parts.ListedPart.{ListedPart}
 use Rattle.blk_object.specs.declared.owning.Owned.{Owned}
 use Rattle.blk_object.specs.Freeing.{words_at}
+use Rattle.blk_object.specs.KeptObjects.{KeptObject}
+use Rattle.blk_object.specs.ListedParts.{SaysPart}
 use Rattle.blk_object.specs.Making.{LeavesRoom}
 use Rattle.blk_object.specs.Owning.{LoadsWith}
 use Rattle.blk_object.specs.RemovingObjects.{FindsEither, IsOwnedBy}
 use Rattle.blk_object.specs.UnlinkedLoads.{KeepsUnlinked}
 use Rattle.blk_sparse.specs.declared.children.Parent.{Parent}
+use Rattle.blk_sparse.specs.declared.dropping.Dropped.{Dropped}
 use Rattle.blk_sparse.specs.declared.dropping.Gone.{Gone}
 use Rattle.blk_sparse.specs.declared.dropping.IndexedParts.{IndexedParts}
 use Rattle.blk_sparse.specs.declared.finding.PartRecords.{PartRecords}
@@ -43,17 +47,18 @@ use Rattle.blk_sparse.specs.declared.measuring.Piece.{Piece}
 use Rattle.blk_sparse.specs.declared.new_part.PartName.{PartName}
 use Rattle.blk_sparse.specs.declared.new_part.PartPlaces.{PartPlaces}
 use Rattle.blk_sparse.specs.declared.parts.ParentName.{ParentName}
+use Rattle.blk_sparse.specs.declared.storing.Counted.{Counted}
 use Rattle.blk_sparse.specs.declared.storing.Target.{Target}
 use Rattle.blk_sparse.specs.declared.writing.PartBytes.{PartBytes}
 use Rattle.blk_sparse.specs.declared.writing.SparseBytes.{SparseBytes}
 use Rattle.blk_sparse.specs.Beginning.{IsParentMarked}
 use Rattle.blk_sparse.specs.Changing.{ForEachToBeChanged, IsChangedUnused, IsDataBeforeMap}
 use Rattle.blk_sparse.specs.Children.{ForEachParentOut, HasParentKey}
-use Rattle.blk_sparse.specs.Dropping.{AreGone, ForEachBehind, ForEachLeft, ForEachPartLeft, IsCalledOverPrefix, IsPartDropped, IsWholeDropped}
+use Rattle.blk_sparse.specs.Dropping.{AreGone, ForEachBehind, ForEachLeft, ForEachPartLeft, IsCalledOverPrefix, IsDropOfNext, IsNextOut, IsPartDropped, IsWholeDropped}
 use Rattle.blk_sparse.specs.Finding.{ArePartsFound}
 use Rattle.blk_sparse.specs.Measuring.{ForEachParentMeasured, IsMeasured, IsPieceMeasured}
-use Rattle.blk_sparse.specs.NewParts.{ArePartStreams, ForEachLacking, HasStreamsNow, IsPartListed, IsWholeBeforeItsBit, WritesPart}
-use Rattle.blk_sparse.specs.Parents.{AreGoneBeside, ArePartsTold, ForEachHeldParent, ForEachParent, ForEachRest, IsGoneWhole, IsGroupTold, IsHeldWhole}
+use Rattle.blk_sparse.specs.NewParts.{ArePartStreams, ForEachLacking, HasStreamsNow, IsPartListed, IsWholeBeforeItsBit, UnlistedPart, WritesPart}
+use Rattle.blk_sparse.specs.Parents.{AreGoneBeside, ArePartsTold, ForEachHeldParent, ForEachParent, ForEachRest, IsGoneWhole, IsGroupTold, IsHeldWhole, LoadsAsParent}
 use Rattle.blk_sparse.specs.Parts.{FindsBeforeOrAfter, ForEachOfKey, IsPartFound, IsUsed}
 use Rattle.blk_sparse.specs.Reading.{part_bytes, part_run}
 use Rattle.blk_sparse.specs.SparseObjects.{FindsUsed, ForEachGrowing, ForEachKeptParent, KeepsParentThen, KeepsParentUsed, parts_of, parts_used, with_bytes, with_bytes_written, with_piece, with_piece_written, with_signature}
@@ -93,12 +98,13 @@ abbrev pub ForEachKeyed : (key : List ℕ) → (signature : ℤ) → Image → O
 ForEachKeyed key signature from P = ForEachOfKey key (cast_unsigned w64 signature) from (λ state layout unlinked number object node entry. P state layout unlinked number object)
 
 -- P holds of each object whose parts have this in their names
-abbrev pub ForEachWithName : ParentName → Image → ObjectClause → Type 0
-ForEachWithName parent from P = ForEachKeyed parent.key.now parent.signature from P
+abbrev pub ForEachOfName : ParentName → Image → ObjectClause → Type 0
+ForEachOfName parent from P = ForEachKeyed parent.key.now parent.signature from P
 
 -- P holds of each object whose parts have this in their names, with its node and its record
-abbrev pub ForEachAt : ParentName → Image → (State → Layout → List ℕ → ℕ → Object → (node entry : ℕ) → Type 0) → Type 0
-ForEachAt parent from P = ForEachOfKey parent.key.now (cast_unsigned w64 parent.signature) from P
+abbrev pub ForEachAt : ParentName → Image → (KeptObject → (node entry : ℕ) → Type 0) → Type 0
+ForEachAt parent from P =
+    ForEachOfKey parent.key.now (cast_unsigned w64 parent.signature) from (λ state layout unlinked number object. P (record { state = state; layout = layout; unlinked = unlinked; number = number; object = object }))
 
 -- P holds of each object that has this parent and to which these bytes may be written
 abbrev pub ForEachCovered : Parent → SparseBytes → Image → ObjectClause → Type 0
@@ -125,12 +131,12 @@ abbrev pub ForKeyLeft : (key : List ℕ) → (signature : ℤ) → Image → Lef
 ForKeyLeft key signature from P = ForEachLeft key (cast_unsigned w64 signature) from P
 
 -- P holds of each object with this key whose main item is out, perhaps some parts too, and whose addresses, which were read, are unlinked
-abbrev pub ForEachOwner : Owned → (key : List ℕ) → IndexedParts → Image → LeftClause → Type 0
-ForEachOwner owned key indexed from P = ForEachRest (words_at owned.places) key indexed from P
+abbrev pub ForOwner : Told → Owned → (key : List ℕ) → IndexedParts → (P : Image → LeftClause) → Type 0
+ForOwner told owned key indexed P = ForSome told.files (λ from. ForEachRest (words_at owned.places) key indexed from (P from))
 
 -- P holds of each live sparse object with this key, this node and this record that no handle names, where what its record owns was read
-abbrev pub ForEachOwned : (key : List ℕ) → (node : ℕ) → Found → Owned → Image → ObjectClause → Type 0
-ForEachOwned key node found owned from P = IsOwnedBy found.entry owned from → ForEachParent key node found.entry found.before from P
+abbrev pub ForRemoval : Told → (key : List ℕ) → (node : ℕ) → Found → Owned → (P : Image → ObjectClause) → Type 0
+ForRemoval told key node found owned P = ForSome told.files (λ from. IsOwnedBy found.entry owned from → ForEachParent key node found.entry found.before from (P from))
 
 -- P holds of each live sparse object with this key, this node and this record that a handle names, where `charge` is the cost of its main item
 abbrev pub ForEachInUse : (key : List ℕ) → (node : ℕ) → Found → (charge : ℕ) → Image → ObjectClause → Type 0
@@ -143,6 +149,10 @@ ForEachBehindOf key signature node from P = ForEachBehind key (cast_unsigned w64
 -- P holds of each object with this key and this generation of which this part is left
 abbrev pub ForEachPartOf : (key : List ℕ) → (signature : ℤ) → ListedPart → Image → LeftClause → Type 0
 ForEachPartOf key signature listed from P = ForEachPartLeft key (cast_unsigned w64 signature) listed.number listed.node from (λ state layout keep unlinked number object was. P state layout keep unlinked number object)
+
+-- the record of the part that was found has as its key the name of that part of `key`
+abbrev pub NamesListed : (key : List ℕ) → ListedPart → Image → Type 0
+NamesListed key listed = λ image. SaysPart listed.entry key listed.number image
 
 -- P holds of each object that has this parent, and of its layout
 abbrev pub ForEachMeasured : Parent → Image → (Layout → Object → Type 0) → Type 0
@@ -233,8 +243,9 @@ abbrev pub Used : (now : Told) → Parent → (items : Object → List Item) →
 Used now parent items from = λ state layout unlinked number object. ForSome now.files (KeepsParentUsed state layout unlinked number object parent.node parent.entry (cast_unsigned w64 parent.signature) (items object) from)
 
 -- the object whose parts have this in their names is kept, with these items in front of the LRU list
-abbrev pub UsedAt : (now : Told) → ParentName → (items : Object → List Item) → (from : Image) → State → Layout → List ℕ → ℕ → Object → (node entry : ℕ) → Type 0
-UsedAt now parent items from = λ state layout unlinked number object node entry. ForSome now.files (KeepsParentUsed state layout unlinked number object node entry (cast_unsigned w64 parent.signature) (items object) from)
+abbrev pub UsedAt : (now : Told) → ParentName → (items : Object → List Item) → (from : Image) → KeptObject → (node entry : ℕ) → Type 0
+UsedAt now parent items from = λ kept node entry.
+    ForSome now.files (KeepsParentUsed kept.state kept.layout kept.unlinked kept.number kept.object node entry (cast_unsigned w64 parent.signature) (items kept.object) from)
 
 -- at each word the durable contents with the first of these items in front are recovered
 abbrev pub Using : (old new : Told) → (items : Object → List Item) → (from : Image) → ObjectClause
@@ -300,15 +311,18 @@ ChangesPart of_part now told place piece from = λ state layout unlinked number 
 
 -- the bytes are written a part after another, each piece in its order
 abbrev pub OrdersBytes : (now told : Told) → Parent → SparseBytes → (from : Image) → ObjectClause
-OrdersBytes now told parent write from = λ state layout unlinked number object. AreInOrder (covered_parts write.offset (length write.bytes.now)) state layout unlinked number object parent.entry (cast_unsigned w64 parent.signature) write.offset write.bytes.now told now
+OrdersBytes now told parent write from = λ state layout unlinked number object.
+    AreInOrder (covered_parts write.offset (length write.bytes.now)) (record { state = state; layout = layout; unlinked = unlinked; number = number; object = object }) parent.entry (cast_unsigned w64 parent.signature) write.offset write.bytes.now told now
 
 -- the same, where the node is given too
 abbrev pub OrdersBytesAtNode : (now told : Told) → Parent → SparseBytes → (from : Image) → NodeClause
-OrdersBytesAtNode now told parent write from = λ state layout unlinked number object node. AreInOrder (covered_parts write.offset (length write.bytes.now)) state layout unlinked number object parent.entry (cast_unsigned w64 parent.signature) write.offset write.bytes.now told now
+OrdersBytesAtNode now told parent write from = λ state layout unlinked number object node.
+    AreInOrder (covered_parts write.offset (length write.bytes.now)) (record { state = state; layout = layout; unlinked = unlinked; number = number; object = object }) parent.entry (cast_unsigned w64 parent.signature) write.offset write.bytes.now told now
 
 -- the piece is written in its order
 abbrev pub OrdersPiece : BlockFiles → (now told : Told) → Parent → PartBytes → (from : Image) → NodeClause
-OrdersPiece files now told parent piece from = λ state layout unlinked number object node. IsPieceInOrder files state layout unlinked number object parent.entry (cast_unsigned w64 parent.signature) piece.number piece.place piece.bytes.now told now
+OrdersPiece files now told parent piece from = λ state layout unlinked number object node.
+    IsPieceInOrder files (record { state = state; layout = layout; unlinked = unlinked; number = number; object = object }) parent.entry (cast_unsigned w64 parent.signature) piece.number piece.place piece.bytes.now told now
 
 -- the new part is written and linked before its bit is set
 abbrev pub OrdersNewPart : BlockFiles → (now told : Told) → (parent : ℕ) → PartName → (from : Image) → NodeClause
@@ -388,7 +402,22 @@ BeginsLeftOfIt E call old new from = λ state layout keep unlinked number object
 abbrev pub PartOut : (now : Told) → (key : List ℕ) → (n : ℕ) → (from : Image) → LeftClause
 PartOut now key n from = λ state layout keep unlinked number object. ForSome now.files (IsPartDropped state layout keep unlinked key number object n)
 
+-- the next part of the object after `node` is out too, or there is none
+abbrev pub DropsNext : (old new : Told) → (key : List ℕ) → (signature : ℤ) → (node : Option ℕ) → (next : Option Dropped) → Type 0
+DropsNext old new key signature node next =
+    ForSome old.files (λ from. ForEachBehind key (cast_unsigned w64 signature) node from (λ state layout keep unlinked number object is.
+    ForSome new.files (IsDropOfNext key is.items (IsNextOut state layout keep unlinked key number object is.front is.items) next from)))
+
+-- this is the cost of the part that was found
+abbrev pub IsCostOfPart : Told → (key : List ℕ) → (signature : ℤ) → ListedPart → (charge : ℕ) → Type 0
+IsCostOfPart told key signature listed charge =
+    ForSome told.files (λ from. ForEachPartLeft key (cast_unsigned w64 signature) listed.number listed.node from (λ state layout keep unlinked number object was. charge ≡ charge_of was))
+
 -- Measures.
+
+-- P holds of each object with this key that has no parts, and of any layout
+abbrev pub ForEachPartless : (key : List ℕ) → (P : Layout → Object → Type 0) → Type 0
+ForEachPartless key P = (layout : Layout) (object : Object) → object.key ≡ key → object.parts ≡ [] → P layout object
 
 -- this is what a write in the range adds to the object, by its layout
 abbrev pub Measures : (signature : ℤ) → (offset count : ℕ) → Measured → (from : Image) → Layout → Object → Type 0
@@ -436,6 +465,10 @@ IsKeyAt entry bytes = λ image. (key : List ℕ) → HasParentKey entry key imag
 abbrev pub HasSomeKey : (entry : ℕ) → Image → Type 0
 HasSomeKey entry = λ image. (key : List ℕ) × HasParentKey entry key image
 
+-- a folder that tells what it is, where the record at address `entry` has a key and is a parent's, reports no corruption
+abbrev pub UndamagedParent : {A : Type 0} → Result A Fault → Told → BlockFiles → (entry : ℕ) → Type 0
+UndamagedParent result told files entry = ForSome told.files (Agrees files) → ForSome told.files (HasSomeKey entry) → ForSome told.files (LoadsAsParent entry) → OpaqueIfDamaged result told
+
 -- Objects that become sparse.
 
 -- the object is kept as a sparse one of this generation
@@ -443,12 +476,12 @@ abbrev pub BecomesParent : (now : Told) → (entry signature : ℕ) → (from : 
 BecomesParent now entry signature from = λ state layout unlinked number object node. ForSome now.files (KeepsParentThen (with_object state number (with_signature object signature)) layout unlinked number (with_signature object signature) node entry signature from)
 
 -- the object is kept as a sparse one of the generation that is given with it
-abbrev pub BecomesParentOf : (now : Told) → (entry : ℕ) → (from : Image) → State → Layout → List ℕ → ℕ → Object → (node signature : ℕ) → Type 0
-BecomesParentOf now entry from = λ state layout unlinked number object node signature. ForSome now.files (KeepsParentThen (with_object state number (with_signature object signature)) layout unlinked number (with_signature object signature) node entry signature from)
+abbrev pub BecomesParentOf : (now : Told) → (entry : ℕ) → (from : Image) → KeptObject → (node signature : ℕ) → Type 0
+BecomesParentOf now entry from = λ kept node signature. ForSome now.files (KeepsParentThen (with_object kept.state kept.number (with_signature kept.object signature)) kept.layout kept.unlinked kept.number (with_signature kept.object signature) node entry signature from)
 
 -- at each word of the steps that were made, the durable contents from before are recovered
-abbrev pub DurableOf : (old new : Told) → (from : Image) → State → Layout → List ℕ → ℕ → Object → (node signature : ℕ) → Type 0
-DurableOf old new from = λ state layout unlinked number object node signature. Recovers old new state
+abbrev pub DurableOf : (old new : Told) → (from : Image) → KeptObject → (node signature : ℕ) → Type 0
+DurableOf old new from = λ kept node signature. Recovers old new kept.state
 
 -- the object with this index is marked as a parent
 abbrev pub MarksParent : (now : Told) → (from : Image) → State → Layout → List ℕ → ℕ → Object → Loaded → ParentIndex → Type 0
@@ -465,20 +498,20 @@ abbrev pub CountsBytes : (entries charge : ℕ) → (now told : Told) → Parent
 CountsBytes entries charge now told parent write from = λ state layout unlinked number object. (counted : State) (laid : Layout) → CountsAfter counted laid (with_bytes_written state number object write.offset write.bytes.now) entries charge from → ForSome now.files (IsCountedThen (with_bytes_written state number object write.offset write.bytes.now) layout unlinked number (with_bytes object write.offset write.bytes.now) parent.node parent.entry (cast_unsigned w64 parent.signature) from)
 
 -- P, a clause on what a call left of the folder and on a write to a target, holds of each object to which the bytes may be written with this rise
-abbrev pub ForStore : Told → Target → (offset : ℕ) → (bytes : List ℕ) → (entries charge : ℕ) → (P : Told → Target → (offset : ℕ) → (bytes : List ℕ) → Image → State → Layout → ℕ → Object → Type 0) → Type 0
-ForStore told target offset bytes entries charge P = ForTold told (ForEachToStore target offset bytes entries charge) (P told target offset bytes)
+abbrev pub ForStore : Told → Target → SparseBytes → Counted → (P : Told → Target → SparseBytes → Image → State → Layout → ℕ → Object → Type 0) → Type 0
+ForStore told target write more P = ForTold told (ForEachToStore target write.offset write.bytes.now more.entries more.charge) (P told target write)
+
+-- where there is an object to which the bytes may be written with this rise, Q holds
+abbrev pub WhereStore : Told → Target → SparseBytes → Counted → (Q : Type 0) → Type 0
+WhereStore told target write more Q = ForTold told (ForEachToStore target write.offset write.bytes.now more.entries more.charge) (λ from state layout number object. Q)
 
 -- the object is kept with the bytes, and counted
-abbrev pub StoresBytes : (now told : Told) → Target → (offset : ℕ) → (bytes : List ℕ) → (from : Image) → State → Layout → ℕ → Object → Type 0
-StoresBytes now told target offset bytes from = λ state layout number object. ForSome now.files (IsKeptWithBytes state layout number object target offset bytes from)
+abbrev pub StoresBytes : (now told : Told) → Target → SparseBytes → (from : Image) → State → Layout → ℕ → Object → Type 0
+StoresBytes now told target write from = λ state layout number object. ForSome now.files (IsKeptWithBytes state layout number object target write.offset write.bytes.now from)
 
 -- at each word of the steps that were made, the durable contents from before are recovered
-abbrev pub DurableStore : (now told : Told) → Target → (offset : ℕ) → (bytes : List ℕ) → (from : Image) → State → Layout → ℕ → Object → Type 0
-DurableStore now told target offset bytes from = λ state layout number object. Recovers told now state
-
--- where the answer is a failed check, the folder is opaque
-abbrev pub UndamagedStore : {A : Type 0} → Result A Fault → (told : Told) → Target → (offset : ℕ) → (bytes : List ℕ) → (from : Image) → State → Layout → ℕ → Object → Type 0
-UndamagedStore result told target offset bytes from = λ state layout number object. OpaqueIfDamaged result told
+abbrev pub DurableStore : (now told : Told) → Target → SparseBytes → (from : Image) → State → Layout → ℕ → Object → Type 0
+DurableStore now told target write from = λ state layout number object. Recovers told now state
 
 -- New parts.
 
@@ -495,12 +528,12 @@ abbrev pub IsNodePlace : BlockFiles → (node : ℕ) → Type 0
 IsNodePlace files node = (kind_of node ≡ rankings) × IsTrue (is_address node) × IsTrue (stands_among files node)
 
 -- the part is in the list and in its chain
-abbrev pub ListsPart : (now : Told) → (from : Image) → State → List (Option Object) → Layout → List ℕ → List ℕ → ℕ → Loaded → Loaded → Loaded → Type 0
-ListsPart now from = λ state objects layout unlinked key n was seen loaded. ForSome now.files (IsPartListed state layout key n was seen loaded from)
+abbrev pub ListsPart : (now : Told) → (from : Image) → UnlistedPart → Type 0
+ListsPart now from = λ part. ForSome now.files (IsPartListed part.state part.layout part.key part.n part.was part.seen part.loaded from)
 
 -- at each word of the steps that were made, the durable contents from before are recovered
-abbrev pub DurableListing : (old new : Told) → (from : Image) → State → List (Option Object) → Layout → List ℕ → List ℕ → ℕ → Loaded → Loaded → Loaded → Type 0
-DurableListing old new from = λ state objects layout unlinked key n was seen loaded. Recovers old new state
+abbrev pub DurableListing : (old new : Told) → (from : Image) → UnlistedPart → Type 0
+DurableListing old new from = λ part. Recovers old new part.state
 
 -- P holds of the folder before and the folder after
 abbrev pub LeavesThen : (old new : Told) → (P : Image → Image → Type 0) → Type 0

@@ -115,10 +115,10 @@ pub record IsNextOut (state : State) (layout : Layout) (keep : Item → Bool) (u
   pub chains : ℕ → List ℕ
   pub left : AreLeft state layout (keeps_but keep (part key dropped.number)) chains unlinked key number object image
 
--- a removal of the next part: the first after the node is out, or None where no item after it is a part of the key, and nothing has changed
-abbrev pub IsDropOfNext : (state : State) (layout : Layout) (keep : Item → Bool) (unlinked key : List ℕ) (number : ℕ) (object : Object) (front items : List Item) (next : Option Dropped) (from image : Image) → Type 0
-IsDropOfNext state layout keep unlinked key number object front items None from image = HaveNoPart key items × (image ≡ from)
-IsDropOfNext state layout keep unlinked key number object front items (Some dropped) from image = IsNextOut state layout keep unlinked key number object front items dropped image
+-- a removal of the next part: it is out, as `is_out` says, or None where none of the items is a part of the key, and nothing has changed
+abbrev pub IsDropOfNext : (key : List ℕ) (items : List Item) (is_out : Dropped → Image → Type 0) (next : Option Dropped) (from image : Image) → Type 0
+IsDropOfNext key items is_out None from image = HaveNoPart key items × (image ≡ from)
+IsDropOfNext key items is_out (Some dropped) from image = is_out dropped image
 
 -- part n of a key is listed and not out, and lies at this node
 pub record IsPartLeft (state : State) (layout : Layout) (keep : Item → Bool) (key : List ℕ) (n node : ℕ) : Type 0 where

@@ -139,11 +139,22 @@ pub record IsPartToBeListed (state : State) (objects : List (Option Object)) (la
   pub sealed : AreSealed image loaded
   pub same_rest : rest (with_first state objects (part key n)) ≡ rest state
 
+-- a written part that isn't listed yet: a state with its layout, the object's key and the part's number, what its parent's record was and shall be seen as, and
+-- what its own loads as
+pub record UnlistedPart : Type 0 where
+  pub state : State
+  pub layout : Layout
+  pub key : List ℕ
+  pub n : ℕ
+  pub was : Loaded
+  pub seen : Loaded
+  pub loaded : Loaded
+
 -- P holds of each written part with this record and this node that isn't listed yet, wherever a folder keeps a state
-abbrev pub ForEachPartToBeListed : (entry node : ℕ) → Image → (State → List (Option Object) → Layout → List ℕ → List ℕ → ℕ → Loaded → Loaded → Loaded → Type 0) → Type 0
+abbrev pub ForEachPartToBeListed : (entry node : ℕ) → Image → (UnlistedPart → Type 0) → Type 0
 ForEachPartToBeListed entry node from P =
     (state : State) (objects : List (Option Object)) (layout : Layout) (unlinked key : List ℕ) (n : ℕ) (was seen loaded : Loaded) → IsPartToBeListed state objects layout unlinked key n was seen loaded from → loaded.contents ≡ entry → loaded.node ≡ node
-    → P state objects layout unlinked key n was seen loaded
+    → P (record { state = state; layout = layout; key = key; n = n; was = was; seen = seen; loaded = loaded })
 
 -- the part's node is the first of the list and its record the first of its chain, its parent is unchanged, and nothing else has changed
 pub record IsPartListed (state : State) (layout : Layout) (key : List ℕ) (n : ℕ) (was seen loaded : Loaded) (from image : Image) : Type 0 where

@@ -32,15 +32,12 @@ pub record LiesAsParent (held : Bool) (state : State) (layout : Layout) (unlinke
   pub index : ParentIndex
   pub role : lies.was.role ≡ IsParent index
 
--- a live sparse object with this key that no handle names, and so may be removed with its parts
-abbrev pub MayGoWhole : (state : State) (layout : Layout) (unlinked : List ℕ) (number : ℕ) (object : Object) (key : List ℕ) (node entry : ℕ) (before : Option ℕ) (image : Image) → Type 0
-MayGoWhole state layout unlinked number object key node entry before image = LiesAsParent false state layout unlinked number object key node entry before image
-
--- P holds of each live sparse object with this key, this node and this record that no handle names, wherever a folder keeps a state
+-- P holds of each live sparse object with this key, this node and this record that no handle names, and so may be removed with its parts, wherever a folder
+-- keeps a state
 abbrev pub ForEachParent : (key : List ℕ) (node entry : ℕ) (before : Option ℕ) → Image → (State → Layout → List ℕ → ℕ → Object → Type 0) → Type 0
 ForEachParent key node entry before from P =
     (state : State) (layout : Layout) (unlinked : List ℕ) (number : ℕ) (object : Object)
-    → MayGoWhole state layout unlinked number object key node entry before from → P state layout unlinked number object
+    → LiesAsParent false state layout unlinked number object key node entry before from → P state layout unlinked number object
 
 -- P holds of each live sparse object with this key, this node and this record that a handle names, where `charge` is the cost of its main item
 abbrev pub ForEachHeldParent : (key : List ℕ) (node entry : ℕ) (before : Option ℕ) (charge : ℕ) → Image → (State → Layout → List ℕ → ℕ → Object → Type 0) → Type 0

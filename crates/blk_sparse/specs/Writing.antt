@@ -10,6 +10,7 @@ use Rattle.spec_format.specs.Names.{child_name}
 use Rattle.spec_folder.specs.Layout.{Layout}
 use Rattle.blk_disk.specs.declared.tables.BlockFiles.{BlockFiles}
 use Rattle.law_state.specs.Keeping.{KeepsUncounted}
+use Rattle.blk_object.specs.KeptObjects.{KeptObject}
 use Rattle.blk_sparse.specs.Changing.{IsDataBeforeMap}
 use Rattle.blk_sparse.specs.NewParts.{IsWholeBeforeItsBit}
 use Rattle.blk_sparse.specs.SparseObjects.{CanGetParts, with_piece, with_piece_written}
@@ -21,17 +22,22 @@ ForEachGrowingOfKey ns key entry signature from P =
     → CanGetParts ns state layout unlinked number object node entry signature from → object.key ≡ key → P state layout unlinked number object node
 
 -- the order of writes for a piece of part n: if the part exists, its data before its validity bitmap; else the whole part before its bit in the parent's index
-abbrev pub IsPieceInOrder : BlockFiles → State → Layout → (unlinked : List ℕ) → (number : ℕ) → Object → (parent signature n place : ℕ) → (piece : List ℕ) → (old new : Told) → Type 0
-IsPieceInOrder files state layout unlinked number object parent signature n place piece old new =
-    MatchOption (part_at object n)
-    (IsWholeBeforeItsBit files state layout object.key (child_name object.key signature n) n parent old new)
-    (λ value. IsDataBeforeMap state unlinked number object n place piece old new)
+abbrev pub IsPieceInOrder : BlockFiles → KeptObject → (parent signature n place : ℕ) → (piece : List ℕ) → (old new : Told) → Type 0
+IsPieceInOrder files kept parent signature n place piece old new =
+    MatchOption (part_at kept.object n)
+    (IsWholeBeforeItsBit files kept.state kept.layout kept.object.key (child_name kept.object.key signature n) n parent old new)
+    (λ value. IsDataBeforeMap kept.state kept.unlinked kept.number kept.object n place piece old new)
+
+-- the object once the piece of part n is written, with the layout with which its state is kept then
+abbrev pub kept_with_piece : KeptObject → (now : Layout) → (n place : ℕ) → (piece : List ℕ) → KeptObject
+kept_with_piece kept now n place piece =
+    record { state = with_piece_written kept.state kept.number kept.object n place piece; layout = now; unlinked = kept.unlinked; number = kept.number; object = with_piece kept.object n place piece }
 
 -- the order of writes for bytes over the parts `ns`: one part after another, each piece in its order, and the state kept between two pieces
-abbrev pub AreInOrder : (ns : List ℕ) → State → Layout → (unlinked : List ℕ) → (number : ℕ) → Object → (parent signature offset : ℕ) → (bytes : List ℕ) → (old new : Told) → Type 0
-AreInOrder [] state layout unlinked number object parent signature offset bytes old new = new ≡ old
-AreInOrder (n ∷ ns) state layout unlinked number object parent signature offset bytes old new =
+abbrev pub AreInOrder : (ns : List ℕ) → KeptObject → (parent signature offset : ℕ) → (bytes : List ℕ) → (old new : Told) → Type 0
+AreInOrder [] kept parent signature offset bytes old new = new ≡ old
+AreInOrder (n ∷ ns) kept parent signature offset bytes old new =
     (files : BlockFiles) × ((between : Told) × ((now : Layout)
-    × (ForSome old.files (KeepsUncounted state layout unlinked)
-    × (IsPieceInOrder files state layout unlinked number object parent signature n (offset - n * part_size) (piece_for n offset bytes) old between
-    × AreInOrder ns (with_piece_written state number object n (offset - n * part_size) (piece_for n offset bytes)) now unlinked number (with_piece object n (offset - n * part_size) (piece_for n offset bytes)) parent signature offset bytes between new))))
+    × (ForSome old.files (KeepsUncounted kept.state kept.layout kept.unlinked)
+    × (IsPieceInOrder files kept parent signature n (offset - n * part_size) (piece_for n offset bytes) old between
+    × AreInOrder ns (kept_with_piece kept now n (offset - n * part_size) (piece_for n offset bytes)) parent signature offset bytes between new))))

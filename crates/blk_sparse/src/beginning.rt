@@ -116,7 +116,7 @@ fn give_index<F: Folder>(
     ensures keeps { KeepsStanding files.old files.new }
     ensures is_open { OnOk result (ForSome (F.told folder.new).files (IsOpen files.new)) }
     ensures damaged { IfDamaged result (IsFailedCheck files.new (F.told folder.new)) }
-    ensures untold { ForTold (F.told folder.old) (ForEachPlainWith bytes.now entry) (λ _ _ _ _ _ _ _ _. OpaqueIfDamaged result (F.told folder.old)) }
+    ensures untold { ForTold (F.told folder.old) (ForEachPlainWith bytes.now entry) (λ _ _ _ _. OpaqueIfDamaged result (F.told folder.old)) }
     ensures writes { MayWrite F.told F.faults folder.old folder.new (IfDevice result) }
 {
     write_object(folder, files, entry, INDEX, 0, true, bytes)?;

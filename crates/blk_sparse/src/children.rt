@@ -1,5 +1,5 @@
 // The parts of a parent are removed, by the key in its record.
-ghost use Rattle.std.specs.Prelude.{◌≡◌, ◌+◌, ◌≤◌, ◌<◌, ℕ, IfOk, IsTrue, List, None, OnOk, false, length, take};
+ghost use Rattle.std.specs.Prelude.{◌≡◌, ◌+◌, ◌≤◌, ◌<◌, ℕ, IfOk, IsTrue, List, OnOk, false, length, take};
 ghost use Rattle.std.specs.Int.{cast_unsigned, w64};
 ghost use Rattle.std.specs.List.{FoldsTo};
 ghost use Rattle.std.specs.Option.{ForSome};
@@ -11,10 +11,9 @@ ghost use Rattle.blk_io.specs.Faults.{IfDamaged, IfDevice, UndamagedWhere};
 ghost use Rattle.blk_disk.specs.Open.{IsOpen};
 ghost use Rattle.blk_disk.specs.Tables.{Agrees, stands_among};
 ghost use Rattle.blk_object.specs.FailedChecks.{IsFailedCheck};
-ghost use Rattle.blk_sparse.specs.Clauses.{AllOutOfIt, BeginsLeftOfIt, CallsLeftOfIt, CountsLeftOfIt, DoomedLeft, ForEachPartlyOut, ForParentIndex, HasSomeKey, IsKeyAt, SessionStaysLeft, UndamagedLeft, UnlinkedStay};
+ghost use Rattle.blk_sparse.specs.Clauses.{AllOutOfIt, BeginsLeftOfIt, CallsLeftOfIt, CountsLeftOfIt, DoomedLeft, ForEachPartlyOut, ForParentIndex, HasSomeKey, IsKeyAt, SessionStaysLeft, UndamagedLeft, UndamagedParent, UnlinkedStay};
 ghost use Rattle.blk_sparse.specs.Children.{HasParentKey};
 ghost use Rattle.blk_sparse.specs.Dropping.{HasNoBit};
-ghost use Rattle.blk_sparse.specs.Parents.{LoadsAsParent};
 
 use crate::dropping::{IndexedParts, drop_indexed_with};
 use crate::parents::read_index;
@@ -157,7 +156,7 @@ fn read_parent<F: Folder>(
     ensures none { IfOk result (λ read. ForSome (F.told folder.old).files (ForParentIndex entry (λ index. read.1 ≡ false → HasNoBit index))) }
     ensures reads { ReadsOnly F.told F.faults folder.old folder.new (IfDevice result) }
     ensures damaged { IfDamaged result (IsFailedCheck files.now (F.told folder.new)) }
-    ensures untold { ForSome (F.told folder.old).files (Agrees files.now) → ForSome (F.told folder.old).files (λ image. (key : List ℕ) × HasParentKey entry key image) → ForSome (F.told folder.old).files (LoadsAsParent entry) → IfDamaged result (λ _. (F.told folder.old).files ≡ None) }
+    ensures untold { UndamagedParent result (F.told folder.old) files.now entry }
 {
     let len = read_key(folder, files, entry, name)?;
     let indexed = read_index(folder, files, entry)?;

@@ -8,14 +8,12 @@ ghost use Rattle.blk_model.specs.Items.{part};
 ghost use Rattle.blk_model.specs.Sizes.{longest_key, part_count, signatures};
 ghost use Rattle.spec_format.specs.Address.{blocks_256, kind_of};
 ghost use Rattle.spec_format.specs.Names.{longest_name};
-ghost use Rattle.spec_folder.specs.Found.{charge_of};
 ghost use Rattle.blk_io.specs.Faults.{IfDamaged, IfDevice};
 ghost use Rattle.blk_disk.specs.Open.{IsOpen};
 ghost use Rattle.blk_disk.specs.Tables.{is_node_among, stands_among};
 ghost use Rattle.blk_object.specs.FailedChecks.{IsFailedCheck};
-ghost use Rattle.blk_object.specs.ListedParts.{SaysPart};
-ghost use Rattle.blk_sparse.specs.Clauses.{AllOut, BeginsLeft, CallsLeft, DoomedLeft, ForEachBehindOf, ForEachPartOf, ForKeyLeft, LeftGone, PartOut, SessionStaysLeft, UndamagedLeft, UnlinkedStay};
-ghost use Rattle.blk_sparse.specs.Dropping.{ForEachBehind, ForEachIndexed, ForEachPartLeft, IsDropOfNext};
+ghost use Rattle.blk_sparse.specs.Clauses.{AllOut, BeginsLeft, CallsLeft, DoomedLeft, DropsNext, ForEachBehindOf, ForEachPartOf, ForKeyLeft, IsCostOfPart, LeftGone, NamesListed, PartOut, SessionStaysLeft, UndamagedLeft, UnlinkedStay};
+ghost use Rattle.blk_sparse.specs.Dropping.{ForEachIndexed};
 
 use blk_addr::Addr;
 use blk_chain::find;
@@ -170,7 +168,7 @@ fn drop_next<F: Folder>(
     requires from { IfSome from (λ node. IsTrue (is_node_among files.now node)) }
     requires buffer { longest_name ≤ length buffer.old }
     requires is_open { ForSome (F.told folder.old).files (IsOpen files.now) }
-    ensures next { IfOk result (λ next. ForSome (F.told folder.old).files (λ image. ForEachBehind key.now (cast_unsigned w64 signature) from image (λ state layout keep unlinked number object is. ForSome (F.told folder.new).files (IsDropOfNext state layout keep unlinked key.now number object is.front is.items next image)))) }
+    ensures next { IfOk result (λ next. DropsNext (F.told folder.old) (F.told folder.new) key.now signature from next) }
     ensures small { IfOk result (λ next. IfSome next (λ dropped. dropped.charge < 2 ^ 34)) }
     ensures stands { IfOk result (λ next. IfSome next (λ dropped. IfSome dropped.behind (λ node. IsTrue (is_node_among files.now node)))) }
     ensures session { OnOk result (ForTold (F.told folder.old) (ForEachBehindOf key.now signature from) (SessionStaysLeft (F.told folder.new))) }
@@ -212,13 +210,13 @@ fn drop_part<F: Folder>(
     requires buffer { longest_name ≤ length buffer.old }
     requires is_open { ForSome (F.told folder.old).files (IsOpen files.now) }
     ensures out { OnOk result (ForTold (F.told folder.old) (ForEachPartOf key.now signature part.now) (PartOut (F.told folder.new) key.now part.now.number)) }
-    ensures charge { IfOk result (λ charge. ForSome (F.told folder.old).files (λ from. ForEachPartLeft key.now (cast_unsigned w64 signature) part.now.number part.now.node from (λ state layout keep unlinked number object was. charge ≡ charge_of was))) }
+    ensures charge { IfOk result (λ charge. IsCostOfPart (F.told folder.old) key.now signature part.now charge) }
     ensures small { IfOk result (λ charge. charge < 2 ^ 34) }
     ensures session { OnOk result (ForTold (F.told folder.old) (ForEachPartOf key.now signature part.now) (SessionStaysLeft (F.told folder.new))) }
     ensures keeps { OnOk result (ForTold (F.told folder.old) (ForEachPartOf key.now signature part.now) (UnlinkedStay (F.told folder.new))) }
     ensures stops { ForTold (F.told folder.old) (ForEachPartOf key.now signature part.now) (DoomedLeft (F.told folder.old) (F.told folder.new)) }
     ensures is_open { ForSome (F.told folder.new).files (IsOpen files.now) }
-    ensures damaged { ForSome (F.told folder.old).files (SaysPart part.now.entry key.now part.now.number) → IfDamaged result (IsFailedCheck files.now (F.told folder.new)) }
+    ensures damaged { ForSome (F.told folder.old).files (NamesListed key.now part.now) → IfDamaged result (IsFailedCheck files.now (F.told folder.new)) }
     ensures untold { ForTold (F.told folder.old) (ForEachPartOf key.now signature part.now) (UndamagedLeft result (F.told folder.old)) }
     ensures writes { MayWrite F.told F.faults folder.old folder.new (IfDevice result) }
 {

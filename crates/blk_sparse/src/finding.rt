@@ -10,7 +10,7 @@ ghost use Rattle.blk_io.specs.Faults.{IfDamaged, IfDevice};
 ghost use Rattle.blk_disk.specs.Open.{IsOpen};
 ghost use Rattle.blk_disk.specs.Tables.{stands_among};
 ghost use Rattle.blk_object.specs.FailedChecks.{IsFailedCheck};
-ghost use Rattle.blk_sparse.specs.Clauses.{ForEachOfParent, ForEachWithName, HasPartsIn, Undamaged};
+ghost use Rattle.blk_sparse.specs.Clauses.{ForEachOfName, ForEachOfParent, HasPartsIn, Undamaged};
 
 use crate::children::{Parent, read_key};
 use crate::parts::{ParentName, find_part};
@@ -88,14 +88,14 @@ fn find_covered<F: Folder>(
     requires few { count ≤ part_size }
     requires inside { offset + count ≤ largest_offset }
     requires is_open { ForSome (F.told folder.old).files (IsOpen files.now) }
-    ensures parts { IfOk result (λ found. ForTold (F.told folder.old) (ForEachWithName parent.entry) (HasPartsIn offset count found)) }
+    ensures parts { IfOk result (λ found. ForTold (F.told folder.old) (ForEachOfName parent.entry) (HasPartsIn offset count found)) }
     ensures first_kind { IfOk result (λ found. IfSome found.first (λ entry. kind_of entry ≡ blocks_256)) }
     ensures first_stands { IfOk result (λ found. IfSome found.first (λ entry. IsTrue (stands_among files.now entry))) }
     ensures second_kind { IfOk result (λ found. IfSome found.second (λ entry. kind_of entry ≡ blocks_256)) }
     ensures second_stands { IfOk result (λ found. IfSome found.second (λ entry. IsTrue (stands_among files.now entry))) }
     ensures reads { ReadsOnly F.told F.faults folder.old folder.new (IfDevice result) }
     ensures damaged { IfDamaged result (IsFailedCheck files.now (F.told folder.new)) }
-    ensures untold { ForTold (F.told folder.old) (ForEachWithName parent.entry) (Undamaged result (F.told folder.old)) }
+    ensures untold { ForTold (F.told folder.old) (ForEachOfName parent.entry) (Undamaged result (F.told folder.old)) }
 {
     let (number, place) = child_of(offset);
     let first = find_part(folder, files, parent, number, buffer)?;

@@ -31,6 +31,6 @@ pub use parents::{doom_parent, read_signature, remove_parent_with};
 pub use present::read_present;
 pub use reading::{range, read, use_parts};
 pub use runs::{Run, find_run};
-pub use storing::{Target, store_sparse};
+pub use storing::{Counted, Target, store_sparse};
 pub use using::use_range;
 pub use writing::{SparseBytes, write};

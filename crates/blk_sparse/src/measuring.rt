@@ -1,18 +1,16 @@
 // What a write adds to an object with parts, measured before it is made.
-ghost use Rattle.std.specs.Prelude.{◌≡◌, ◌≤◌, ◌<◌, ◌+◌, ◌^◌, [], IfOk, IsTrue, None, length};
+ghost use Rattle.std.specs.Prelude.{◌≡◌, ◌≤◌, ◌<◌, ◌+◌, ◌^◌, IfOk, IsTrue, None, length};
 ghost use Rattle.std.specs.Int.{cast_unsigned, w64};
 ghost use Rattle.std.specs.Option.{ForSome};
 ghost use Rattle.spec_image.specs.Told.{ReadsOnly, ForTold};
 ghost use Rattle.blk_model.specs.Sizes.{blocks_index_charge, largest_offset, longest_key, part_count, part_size, signatures};
 ghost use Rattle.spec_format.specs.Address.{blocks_256, kind_of};
-ghost use Rattle.blk_model.specs.State.{Object};
 ghost use Rattle.spec_format.specs.Names.{child_name, longest_name};
-ghost use Rattle.spec_folder.specs.Layout.{Layout};
 ghost use Rattle.blk_io.specs.Faults.{IfDamaged, IfDevice, OpaqueIfDamaged};
 ghost use Rattle.blk_disk.specs.Open.{IsOpen};
 ghost use Rattle.blk_disk.specs.Tables.{stands_among};
 ghost use Rattle.blk_object.specs.FailedChecks.{IsFailedCheck};
-ghost use Rattle.blk_sparse.specs.Clauses.{ForEachKeyed, ForEachMeasured, HasMeasure, HasPieceMeasure, Measures, MeasuresPart, MeasuresPlain, Undamaged};
+ghost use Rattle.blk_sparse.specs.Clauses.{ForEachKeyed, ForEachMeasured, ForEachPartless, HasMeasure, HasPieceMeasure, Measures, MeasuresPart, MeasuresPlain, Undamaged};
 ghost use Rattle.blk_sparse.specs.Measuring.{ForEachPartMeasured, ForEachPlainMeasured, IsMeasured};
 
 use crate::children::{Parent, read_key};
@@ -258,7 +256,7 @@ fn measure_made(key: &[u8], signature: i64, buffer: &mut [u8], offset: u64, coun
     requires some { 1 ≤ count }
     requires few { count ≤ part_size }
     requires inside { offset + count ≤ largest_offset }
-    ensures measured { (layout : Layout) (object : Object) → object.key ≡ key.now → object.parts ≡ [] → IsMeasured layout object (cast_unsigned w64 signature) offset count result }
+    ensures measured { ForEachPartless key.now (λ layout object. IsMeasured layout object (cast_unsigned w64 signature) offset count result) }
     ensures light { result.bytes < 2 ^ 36 }
     ensures buffer { length buffer.new ≡ length buffer.old }
 {

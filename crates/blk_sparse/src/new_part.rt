@@ -134,7 +134,7 @@ fn list_part<F: Folder>(
     ensures stops { ForTold (F.told folder.old) (ForEachPartToBeListed entry node) (DurableListing (F.told folder.old) (F.told folder.new)) }
     ensures is_open { ForSome (F.told folder.new).files (IsOpen files.now) }
     ensures damaged { IfDamaged result (IsFailedCheck files.now (F.told folder.new)) }
-    ensures untold { ForTold (F.told folder.old) (ForEachPartToBeListed entry node) (λ _ _ _ _ _ _ _ _ _ _. OpaqueIfDamaged result (F.told folder.old)) }
+    ensures untold { ForTold (F.told folder.old) (ForEachPartToBeListed entry node) (λ _ _. OpaqueIfDamaged result (F.told folder.old)) }
     ensures writes { MayWrite F.told F.faults folder.old folder.new (IfDevice result) }
 {
     insert_front(folder, files, node)?;

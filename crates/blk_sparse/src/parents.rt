@@ -13,7 +13,7 @@ ghost use Rattle.blk_disk.specs.Open.{IsOpen};
 ghost use Rattle.blk_disk.specs.Tables.{Agrees, is_node_among, stands_among};
 ghost use Rattle.blk_object.specs.FailedChecks.{IsFailedCheck};
 ghost use Rattle.blk_object.specs.Freeing.{IsPlaceAmong};
-ghost use Rattle.blk_sparse.specs.Clauses.{AllOut, Began, BeginsLeft, Calls, CallsLeft, DoomedLeft, DoomsWhole, ForEachInUse, ForEachOwned, ForEachOwner, ForParentIndex, GoesWhole, GroupGone, IsGenerationAt, LeftGoneBeside, MaybeDoomed, PartsGone, SessionStays, SessionStaysLeft, Undamaged, UndamagedLeft};
+ghost use Rattle.blk_sparse.specs.Clauses.{AllOut, Began, BeginsLeft, Calls, CallsLeft, DoomedLeft, DoomsWhole, ForEachInUse, ForOwner, ForParentIndex, ForRemoval, GoesWhole, GroupGone, IsGenerationAt, LeftGoneBeside, MaybeDoomed, PartsGone, SessionStays, SessionStaysLeft, Undamaged, UndamagedLeft};
 ghost use Rattle.blk_sparse.specs.Dropping.{HasNoBit};
 ghost use Rattle.blk_sparse.specs.Parents.{LoadsAsParent};
 
@@ -62,20 +62,20 @@ pub fn remove_parent_with<F: Folder, E: FnMut(u32)>(
 
     // Where these are its places and its cost, and there is such an object in a state that is kept, the state with it doomed is kept in the end, in the same
     // session. The answer has how many items were removed, and the sum of their costs.
-    ensures removed { OnOk result (ForTold (F.told folder.old) (ForEachOwned key.now node found.now owned.now) (GoesWhole (F.told folder.new))) }
-    ensures gone { IfOk result (λ gone. ForTold (F.told folder.old) (ForEachOwned key.now node found.now owned.now) (GroupGone key.now gone)) }
-    ensures session { OnOk result (ForTold (F.told folder.old) (ForEachOwned key.now node found.now owned.now) (SessionStays (F.told folder.new))) }
+    ensures removed { OnOk result (ForRemoval (F.told folder.old) key.now node found.now owned.now (GoesWhole (F.told folder.new))) }
+    ensures gone { IfOk result (λ gone. ForRemoval (F.told folder.old) key.now node found.now owned.now (GroupGone key.now gone)) }
+    ensures session { OnOk result (ForRemoval (F.told folder.old) key.now node found.now owned.now (SessionStays (F.told folder.new))) }
 
     // `each` was called with the numbers of its parts, in the order of the LRU list, once each; or with a prefix of
     // them.
-    ensures each { OnOk result (ForTold (F.told folder.old) (ForEachOwned key.now node found.now owned.now) (Calls (λ p x q. E.step p x tt q) key.now each.old each.new)) }
-    ensures front { ForTold (F.told folder.old) (ForEachOwned key.now node found.now owned.now) (Began E (λ p x q. E.step p x tt q) key.now each.old each.new) }
+    ensures each { OnOk result (ForRemoval (F.told folder.old) key.now node found.now owned.now (Calls (λ p x q. E.step p x tt q) key.now each.old each.new)) }
+    ensures front { ForRemoval (F.told folder.old) key.now node found.now owned.now (Began E (λ p x q. E.step p x tt q) key.now each.old each.new) }
 
     // On every folder it was called with some numbers.
     ensures calls { (numbers : List ℕ) × FoldsTo (λ p x q. E.step p x tt q) each.old numbers each.new }
 
     // At each word the old durable contents are recovered, or those with the object doomed.
-    ensures stops { ForTold (F.told folder.old) (ForEachOwned key.now node found.now owned.now) (MaybeDoomed (F.told folder.old) (F.told folder.new)) }
+    ensures stops { ForRemoval (F.told folder.old) key.now node found.now owned.now (MaybeDoomed (F.told folder.old) (F.told folder.new)) }
 
     ensures is_open { ForSome (F.told folder.new).files (IsOpen files.now) }
 
@@ -83,7 +83,7 @@ pub fn remove_parent_with<F: Folder, E: FnMut(u32)>(
     ensures damaged { IfDamaged result (IsFailedCheck files.now (F.told folder.new)) }
 
     // An observable folder, with such an object, reports no corruption.
-    ensures untold { ForTold (F.told folder.old) (ForEachOwned key.now node found.now owned.now) (Undamaged result (F.told folder.old)) }
+    ensures untold { ForRemoval (F.told folder.old) key.now node found.now owned.now (Undamaged result (F.told folder.old)) }
 
     ensures writes { MayWrite F.told F.faults folder.old folder.new (IfDevice result) }
 {
@@ -221,16 +221,16 @@ fn drop_and_free<F: Folder, E: FnMut(u32)>(
     requires buffer { longest_name ≤ length buffer.old }
     requires callable { E.IsAlwaysCallable each.old }
     requires is_open { ForSome (F.told folder.old).files (IsOpen files.now) }
-    ensures out { OnOk result (ForTold (F.told folder.old) (ForEachOwner owned.now key.now indexed) (AllOut (F.told folder.new) key.now)) }
-    ensures gone { IfOk result (λ gone. ForTold (F.told folder.old) (ForEachOwner owned.now key.now indexed) (LeftGoneBeside key.now owned.now.charge gone)) }
-    ensures session { OnOk result (ForTold (F.told folder.old) (ForEachOwner owned.now key.now indexed) (SessionStaysLeft (F.told folder.new))) }
-    ensures each { OnOk result (ForTold (F.told folder.old) (ForEachOwner owned.now key.now indexed) (CallsLeft (λ p x q. E.step p x tt q) key.now each.old each.new)) }
-    ensures front { ForTold (F.told folder.old) (ForEachOwner owned.now key.now indexed) (BeginsLeft E (λ p x q. E.step p x tt q) key.now each.old each.new) }
+    ensures out { OnOk result (ForOwner (F.told folder.old) owned.now key.now indexed (AllOut (F.told folder.new) key.now)) }
+    ensures gone { IfOk result (λ gone. ForOwner (F.told folder.old) owned.now key.now indexed (LeftGoneBeside key.now owned.now.charge gone)) }
+    ensures session { OnOk result (ForOwner (F.told folder.old) owned.now key.now indexed (SessionStaysLeft (F.told folder.new))) }
+    ensures each { OnOk result (ForOwner (F.told folder.old) owned.now key.now indexed (CallsLeft (λ p x q. E.step p x tt q) key.now each.old each.new)) }
+    ensures front { ForOwner (F.told folder.old) owned.now key.now indexed (BeginsLeft E (λ p x q. E.step p x tt q) key.now each.old each.new) }
     ensures calls { (numbers : List ℕ) × FoldsTo (λ p x q. E.step p x tt q) each.old numbers each.new }
-    ensures stops { ForTold (F.told folder.old) (ForEachOwner owned.now key.now indexed) (DoomedLeft (F.told folder.old) (F.told folder.new)) }
+    ensures stops { ForOwner (F.told folder.old) owned.now key.now indexed (DoomedLeft (F.told folder.old) (F.told folder.new)) }
     ensures is_open { ForSome (F.told folder.new).files (IsOpen files.now) }
     ensures damaged { IfDamaged result (IsFailedCheck files.now (F.told folder.new)) }
-    ensures untold { ForTold (F.told folder.old) (ForEachOwner owned.now key.now indexed) (UndamagedLeft result (F.told folder.old)) }
+    ensures untold { ForOwner (F.told folder.old) owned.now key.now indexed (UndamagedLeft result (F.told folder.old)) }
     ensures writes { MayWrite F.told F.faults folder.old folder.new (IfDevice result) }
 {
     let parts = drop_indexed_with(folder, files, key, indexed, buffer, each)?;

@@ -10,7 +10,7 @@ ghost use Rattle.blk_io.specs.Faults.{IfDamaged, IfDevice, OpaqueIfDamaged};
 ghost use Rattle.blk_disk.specs.Open.{IsOpen};
 ghost use Rattle.blk_disk.specs.Tables.{stands_among};
 ghost use Rattle.blk_object.specs.FailedChecks.{IsFailedCheck};
-ghost use Rattle.blk_sparse.specs.Clauses.{ForEachWithName, HasPart, ItemUsed, ItemUsing, Undamaged};
+ghost use Rattle.blk_sparse.specs.Clauses.{ForEachOfName, HasPart, ItemUsed, ItemUsing, Undamaged};
 ghost use Rattle.blk_sparse.specs.Parts.{ForEachListedAt};
 
 use blk_addr::Addr;
@@ -44,13 +44,13 @@ pub(crate) fn find_part<F: Folder>(
     requires number { number < part_count }
     requires buffer { longest_name ≤ length buffer.old }
     requires is_open { ForSome (F.told folder.old).files (IsOpen files.now) }
-    ensures part { IfOk result (λ part. ForTold (F.told folder.old) (ForEachWithName parent.entry) (HasPart number part)) }
+    ensures part { IfOk result (λ part. ForTold (F.told folder.old) (ForEachOfName parent.entry) (HasPart number part)) }
     ensures kind { IfOk result (λ part. IfSome part (λ entry. kind_of entry ≡ blocks_256)) }
     ensures stands { IfOk result (λ part. IfSome part (λ entry. IsTrue (stands_among files.now entry))) }
     ensures buffer { length buffer.new ≡ length buffer.old }
     ensures reads { ReadsOnly F.told F.faults folder.old folder.new (IfDevice result) }
     ensures damaged { IfDamaged result (IsFailedCheck files.now (F.told folder.new)) }
-    ensures untold { ForTold (F.told folder.old) (ForEachWithName parent.entry) (Undamaged result (F.told folder.old)) }
+    ensures untold { ForTold (F.told folder.old) (ForEachOfName parent.entry) (Undamaged result (F.told folder.old)) }
 {
     let len = child_name(parent.key, parent.signature, number, buffer);
     match find(folder, files, &buffer[..len], true)? {

@@ -10,7 +10,7 @@ ghost use Rattle.blk_io.specs.Faults.{IfDamaged, IfDevice, UndamagedWhere};
 ghost use Rattle.blk_disk.specs.Open.{IsOpen};
 ghost use Rattle.blk_disk.specs.Tables.{Agrees, stands_among};
 ghost use Rattle.blk_object.specs.FailedChecks.{IsFailedCheck};
-ghost use Rattle.blk_sparse.specs.Clauses.{ForEachOfParent, ForEachWithName, HasPartBytes, HasSparseBytes, ReadsPart, Undamaged};
+ghost use Rattle.blk_sparse.specs.Clauses.{ForEachOfName, ForEachOfParent, HasPartBytes, HasSparseBytes, ReadsPart, Undamaged};
 ghost use Rattle.blk_sparse.specs.Changing.{LoadsAsPart};
 ghost use Rattle.blk_sparse.specs.Reading.{ForEachPartRead};
 
@@ -83,13 +83,13 @@ fn bytes_covered<F: Folder>(
     requires few { length out.old ≤ part_size }
     requires inside { offset + length out.old ≤ largest_offset }
     requires is_open { ForSome (F.told folder.old).files (IsOpen files.now) }
-    ensures bytes { IfOk result (λ n. ForTold (F.told folder.old) (ForEachWithName parent.entry) (HasSparseBytes (take n out.new) offset (length out.old))) }
+    ensures bytes { IfOk result (λ n. ForTold (F.told folder.old) (ForEachOfName parent.entry) (HasSparseBytes (take n out.new) offset (length out.old))) }
     ensures within { IfOk result (λ n. n ≤ length out.old) }
     ensures long { length out.new ≡ length out.old }
     ensures buffer { length buffer.new ≡ length buffer.old }
     ensures reads { ReadsOnly F.told F.faults folder.old folder.new (IfDevice result) }
     ensures damaged { IfDamaged result (IsFailedCheck files.now (F.told folder.new)) }
-    ensures untold { ForTold (F.told folder.old) (ForEachWithName parent.entry) (Undamaged result (F.told folder.old)) }
+    ensures untold { ForTold (F.told folder.old) (ForEachOfName parent.entry) (Undamaged result (F.told folder.old)) }
 {
     if out.is_empty() {
         return Ok(0);
@@ -122,13 +122,13 @@ fn bytes_of_part<F: Folder>(
     requires buffer { longest_name ≤ length buffer.old }
     requires inside { place + length out.old ≤ part_size }
     requires is_open { ForSome (F.told folder.old).files (IsOpen files.now) }
-    ensures bytes { IfOk result (λ n. ForTold (F.told folder.old) (ForEachWithName parent.entry) (HasPartBytes (take n out.new) number place (length out.old))) }
+    ensures bytes { IfOk result (λ n. ForTold (F.told folder.old) (ForEachOfName parent.entry) (HasPartBytes (take n out.new) number place (length out.old))) }
     ensures within { IfOk result (λ n. n ≤ length out.old) }
     ensures long { length out.new ≡ length out.old }
     ensures buffer { length buffer.new ≡ length buffer.old }
     ensures reads { ReadsOnly F.told F.faults folder.old folder.new (IfDevice result) }
     ensures damaged { IfDamaged result (IsFailedCheck files.now (F.told folder.new)) }
-    ensures untold { ForTold (F.told folder.old) (ForEachWithName parent.entry) (Undamaged result (F.told folder.old)) }
+    ensures untold { ForTold (F.told folder.old) (ForEachOfName parent.entry) (Undamaged result (F.told folder.old)) }
 {
     match find_part(folder, files, parent, number, buffer)? {
         Some(part) => bytes_there(folder, files, part, place, out),

@@ -10,7 +10,7 @@ ghost use Rattle.blk_io.specs.Faults.{IfDamaged, IfDevice};
 ghost use Rattle.blk_disk.specs.Open.{IsOpen};
 ghost use Rattle.blk_disk.specs.Tables.{stands_among};
 ghost use Rattle.blk_object.specs.FailedChecks.{IsFailedCheck};
-ghost use Rattle.blk_sparse.specs.Clauses.{ForEachAt, ForEachOfParent, ForEachWithName, HasRun, HasSparseBytes, Undamaged, Used, UsedAt, Using, part_if_any, parts_within};
+ghost use Rattle.blk_sparse.specs.Clauses.{ForEachAt, ForEachOfName, ForEachOfParent, HasRun, HasSparseBytes, Undamaged, Used, UsedAt, Using, part_if_any, parts_within};
 
 use crate::children::{Parent, read_key};
 use crate::parts::{ParentName, find_part, use_entry};
@@ -86,10 +86,10 @@ fn use_covered<F: Folder>(
     requires inside { offset + count ≤ largest_offset }
     requires is_open { ForSome (F.told folder.old).files (IsOpen files.now) }
     ensures used { OnOk result (ForTold (F.told folder.old) (ForEachAt parent.entry) (UsedAt (F.told folder.new) parent.entry (parts_within offset count))) }
-    ensures stops { ForTold (F.told folder.old) (ForEachWithName parent.entry) (Using (F.told folder.old) (F.told folder.new) (parts_within offset count)) }
+    ensures stops { ForTold (F.told folder.old) (ForEachOfName parent.entry) (Using (F.told folder.old) (F.told folder.new) (parts_within offset count)) }
     ensures is_open { ForSome (F.told folder.new).files (IsOpen files.now) }
     ensures damaged { IfDamaged result (IsFailedCheck files.now (F.told folder.new)) }
-    ensures untold { ForTold (F.told folder.old) (ForEachWithName parent.entry) (Undamaged result (F.told folder.old)) }
+    ensures untold { ForTold (F.told folder.old) (ForEachOfName parent.entry) (Undamaged result (F.told folder.old)) }
     ensures writes { MayWrite F.told F.faults folder.old folder.new (IfDevice result) }
 {
     if count == 0 {
@@ -120,11 +120,11 @@ fn use_part<F: Folder>(
     requires buffer { longest_name ≤ length buffer.old }
     requires is_open { ForSome (F.told folder.old).files (IsOpen files.now) }
     ensures used { OnOk result (ForTold (F.told folder.old) (ForEachAt parent.entry) (UsedAt (F.told folder.new) parent.entry (part_if_any number))) }
-    ensures stops { ForTold (F.told folder.old) (ForEachWithName parent.entry) (Using (F.told folder.old) (F.told folder.new) (part_if_any number)) }
+    ensures stops { ForTold (F.told folder.old) (ForEachOfName parent.entry) (Using (F.told folder.old) (F.told folder.new) (part_if_any number)) }
     ensures buffer { length buffer.new ≡ length buffer.old }
     ensures is_open { ForSome (F.told folder.new).files (IsOpen files.now) }
     ensures damaged { IfDamaged result (IsFailedCheck files.now (F.told folder.new)) }
-    ensures untold { ForTold (F.told folder.old) (ForEachWithName parent.entry) (Undamaged result (F.told folder.old)) }
+    ensures untold { ForTold (F.told folder.old) (ForEachOfName parent.entry) (Undamaged result (F.told folder.old)) }
     ensures writes { MayWrite F.told F.faults folder.old folder.new (IfDevice result) }
 {
     match find_part(folder, files, parent, number, buffer)? {

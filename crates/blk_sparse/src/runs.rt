@@ -11,7 +11,7 @@ ghost use Rattle.blk_io.specs.Faults.{IfDamaged, IfDevice};
 ghost use Rattle.blk_disk.specs.Open.{IsOpen};
 ghost use Rattle.blk_disk.specs.Tables.{stands_among};
 ghost use Rattle.blk_object.specs.FailedChecks.{IsFailedCheck};
-ghost use Rattle.blk_sparse.specs.Clauses.{ForEachOfParent, ForEachWithName, HasPartRun, HasRun, Undamaged};
+ghost use Rattle.blk_sparse.specs.Clauses.{ForEachOfName, ForEachOfParent, HasPartRun, HasRun, Undamaged};
 ghost use Rattle.blk_sparse.specs.Reading.{joined_runs};
 
 use crate::changing::read_map;
@@ -86,11 +86,11 @@ fn run_covered<F: Folder>(
     requires few { count ≤ part_size }
     requires inside { offset + count ≤ largest_offset }
     requires is_open { ForSome (F.told folder.old).files (IsOpen files.now) }
-    ensures run { IfOk result (λ run. ForTold (F.told folder.old) (ForEachWithName parent.entry) (HasRun (run.start, run.length) offset count)) }
+    ensures run { IfOk result (λ run. ForTold (F.told folder.old) (ForEachOfName parent.entry) (HasRun (run.start, run.length) offset count)) }
     ensures buffer { length buffer.new ≡ length buffer.old }
     ensures reads { ReadsOnly F.told F.faults folder.old folder.new (IfDevice result) }
     ensures damaged { IfDamaged result (IsFailedCheck files.now (F.told folder.new)) }
-    ensures untold { ForTold (F.told folder.old) (ForEachWithName parent.entry) (Undamaged result (F.told folder.old)) }
+    ensures untold { ForTold (F.told folder.old) (ForEachOfName parent.entry) (Undamaged result (F.told folder.old)) }
 {
     if count == 0 {
         return Ok(Run {
@@ -161,13 +161,13 @@ fn run_of_part<F: Folder>(
     requires buffer { longest_name ≤ length buffer.old }
     requires inside { place + count ≤ part_size }
     requires is_open { ForSome (F.told folder.old).files (IsOpen files.now) }
-    ensures run { IfOk result (λ run. ForTold (F.told folder.old) (ForEachWithName parent.entry) (HasPartRun (run.start, run.length) number place count)) }
+    ensures run { IfOk result (λ run. ForTold (F.told folder.old) (ForEachOfName parent.entry) (HasPartRun (run.start, run.length) number place count)) }
     ensures from { IfOk result (λ run. place ≤ run.start) }
     ensures within { IfOk result (λ run. run.start + run.length ≤ place + count) }
     ensures buffer { length buffer.new ≡ length buffer.old }
     ensures reads { ReadsOnly F.told F.faults folder.old folder.new (IfDevice result) }
     ensures damaged { IfDamaged result (IsFailedCheck files.now (F.told folder.new)) }
-    ensures untold { ForTold (F.told folder.old) (ForEachWithName parent.entry) (Undamaged result (F.told folder.old)) }
+    ensures untold { ForTold (F.told folder.old) (ForEachOfName parent.entry) (Undamaged result (F.told folder.old)) }
 {
     match find_part(folder, files, parent, number, buffer)? {
         Some(part) => {

@@ -6,13 +6,13 @@ ghost use Rattle.spec_image.specs.Told.{Passes, MayWrite, ForTold};
 ghost use Rattle.blk_model.specs.Sizes.{largest_offset, longest_key, part_size, signatures};
 ghost use Rattle.spec_format.specs.Address.{blocks_256, kind_of};
 ghost use Rattle.spec_format.specs.Names.{longest_name};
-ghost use Rattle.blk_io.specs.Faults.{IfDamaged, IfDevice};
+ghost use Rattle.blk_io.specs.Faults.{IfDamaged, IfDevice, OpaqueIfDamaged};
 ghost use Rattle.blk_disk.specs.Open.{IsOpen};
 ghost use Rattle.blk_disk.specs.Tables.{stands_among};
 ghost use Rattle.blk_alloc.specs.Extending.{KeepsStanding};
 ghost use Rattle.law_state.specs.Changes.{KeepsWith};
 ghost use Rattle.blk_object.specs.FailedChecks.{IsFailedCheck};
-ghost use Rattle.blk_sparse.specs.Clauses.{BeginsTarget, CountsBytes, Durable, DurableStore, ForEachCovered, ForStore, ForWriteOf, StoresBytes, Undamaged, UndamagedStore};
+ghost use Rattle.blk_sparse.specs.Clauses.{BeginsTarget, CountsBytes, Durable, DurableStore, ForEachCovered, ForStore, ForWriteOf, StoresBytes, Undamaged, WhereStore};
 ghost use Rattle.blk_sparse.specs.SparseWrites.{AreItemsCounted, ForEachTarget, signature_to};
 
 use crate::beginning::begin;
@@ -31,13 +31,13 @@ pub struct Target {
     pub plain: bool,
 }
 
-// What a write adds to the counters of the index.
-#[derive(Clone, Copy)]
-struct Counted {
-    // How many items.
-    entries: u64,
-    // The cost of these, and the bytes by which the costs of items that grow rise.
-    charge: u64,
+/// What a write adds to the counters of the index.
+#[derive(Clone, Copy, Debug)]
+pub struct Counted {
+    /// How many items.
+    pub entries: u64,
+    /// The cost of these, and the bytes by which the costs of items that grow rise.
+    pub charge: u64,
 }
 
 /// Writes sparse data to a dirty live object: its main item is accessed, it becomes sparse where it is plain, the bytes are written, and the counters of the
@@ -49,25 +49,23 @@ pub fn store_sparse<F: Folder>(
     files: &mut BlockFiles,
     target: &Target,
     name: &mut [u8],
-    offset: u64,
-    bytes: &[u8],
-    entries: u64,
-    charge: u64,
+    data: SparseBytes,
+    more: Counted,
     moment: u64,
 ) -> Result<(), Fault>
     requires kind { kind_of target.now.parent.entry ≡ blocks_256 }
     requires stands { IsTrue (stands_among files.old target.now.parent.entry) }
     requires signature { signature_to target.now < signatures }
     requires name { longest_key + longest_name ≤ length name.old }
-    requires few { length bytes.now ≤ part_size }
-    requires inside { offset + length bytes.now ≤ largest_offset }
+    requires few { length data.bytes.now ≤ part_size }
+    requires inside { data.offset + length data.bytes.now ≤ largest_offset }
     requires is_open { ForSome (F.told folder.old).files (IsOpen files.old) }
 
     // Each state that was kept, with such an object, is kept with the bytes, and with its items in front.
-    ensures stored { OnOk result (ForStore (F.told folder.old) target.now offset bytes.now entries charge (StoresBytes (F.told folder.new))) }
+    ensures stored { OnOk result (ForStore (F.told folder.old) target.now data.entry more (StoresBytes (F.told folder.new))) }
 
     // At each word the old durable contents are recovered: a dirty object isn't durable.
-    ensures stops { ForStore (F.told folder.old) target.now offset bytes.now entries charge (DurableStore (F.told folder.new)) }
+    ensures stops { ForStore (F.told folder.old) target.now data.entry more (DurableStore (F.told folder.new)) }
 
     // What was valid still is.
     ensures keeps { KeepsStanding files.old files.new }
@@ -77,13 +75,11 @@ pub fn store_sparse<F: Folder>(
     ensures damaged { IfDamaged result (IsFailedCheck files.new (F.told folder.new)) }
 
     // An observable folder, with such an object, reports no corruption.
-    ensures untold { ForStore (F.told folder.old) target.now offset bytes.now entries charge (UndamagedStore result) }
+    ensures untold { WhereStore (F.told folder.old) target.now data.entry more (OpaqueIfDamaged result (F.told folder.old)) }
 
     ensures writes { MayWrite F.told F.faults folder.old folder.new (IfDevice result) }
 {
     use_and_begin(folder, files, target, moment)?;
-    let data = SparseBytes { offset, bytes };
-    let more = Counted { entries, charge };
     write_and_count(folder, files, &target.parent, name, data, more, moment)
 }
 

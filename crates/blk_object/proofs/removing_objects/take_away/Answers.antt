@@ -9,7 +9,7 @@ use Rattle.blk_disk.specs.Open.{IsOpen}
 use Rattle.blk_object.specs.Owning.{LoadsWith}
 use Rattle.spec_folder.specs.Removal.{without_items}
 use Rattle.blk_object.specs.RemovingObjects.{FindsEither}
-use Rattle.blk_object.specs.NextItems.{IsGoingNext}
+use Rattle.blk_object.specs.NextItems.{IsBeingFreed, IsGoingNext}
 use Rattle.blk_object.proofs.GoingNext.{next-loads}
 use Rattle.blk_object.proofs.OwnedPlaces.{owned-by}
 use Rattle.blk_object.proofs.RemovedObjects.{item-found}
@@ -25,7 +25,7 @@ returns-in_err-read-clause-is_open g c = subst (λ (t : Told). ForSome t.files (
 
 pub returns-in_err-read-clause-going : goal.returns-in_err-read-clause-going
 returns-in_err-read-clause-going g c from there state layout keep chains unlinked item k p =
-    passes_none (IsGoingNext state layout keep chains unlinked item c.args.node c.args.found.now.entry c.args.found.now.before from) c.in_err-read.ensures.reads.stays (λ image is. inl (some_inj (sym is ∙ there)))
+    passes_none (IsGoingNext c.args.node c.args.found.now.entry c.args.found.now.before (IsBeingFreed state layout keep chains unlinked item c.args.found.now.entry) from) c.in_err-read.ensures.reads.stays (λ image is. inl (some_inj (sym is ∙ there)))
 
 pub returns-in_err-read-clause-untold_out : goal.returns-in_err-read-clause-untold_out
 returns-in_err-read-clause-untold_out g c from there state layout keep chains unlinked item k p =

@@ -4,7 +4,7 @@ use Rattle.std.proofs.lemmas.Fn.{FoldsTo-push}
 use Rattle.std.proofs.lemmas.Int.{of_z-to_z}
 use Rattle.spec_image.proofs.Runs.{passes_then}
 use Rattle.blk_io.proofs.Carried.{carried, if_damaged_weaker}
-use Rattle.blk_sparse.specs.Dropping.{HasSignature, IsDropOfNext}
+use Rattle.blk_sparse.specs.Dropping.{HasSignature, IsDropOfNext, IsNextOut}
 use Rattle.blk_sparse.specs.declared.dropping.Dropped.{Dropped}
 use Rattle.blk_sparse.proofs.PartsNext.{of-some}
 use Rattle.blk_sparse.proofs.PartsOut.{left-finds, none-some}
@@ -151,7 +151,7 @@ loop-preserved g c = record {
       (c.in_ok-dropped.ensures.stops d.image d.told state layout d.keeps d.chains unlinked number object d.left sig d.walked.is)
       (c.in_ok-dropped.ensures.session d.image d.told state layout d.keeps d.chains unlinked number object d.left sig d.walked.is)
       (c.in_ok-dropped.ensures.keeps d.image d.told state layout d.keeps d.chains unlinked number object d.left sig d.walked.is)
-      (λ image is. subst (λ (o : Option Dropped). IsDropOfNext state layout d.keeps unlinked c.args.key.now number object d.walked.is.front d.walked.is.items o d.image image) c.in-Some.is
+      (λ image is. subst (λ (o : Option Dropped). IsDropOfNext c.args.key.now d.walked.is.items (IsNextOut state layout d.keeps unlinked c.args.key.now number object d.walked.is.front d.walked.is.items) o d.image image) c.in-Some.is
       (c.in_ok-dropped.ensures.next d.image d.told state layout d.keeps d.chains unlinked number object d.left sig d.walked.is image is));
   calls = let before = c.loop.invariant.calls in (before.0 ++ c.in-Some.dropped.number ∷ [], FoldsTo-push (λ p x q. goal.E-step g p x tt q) c.args.each.now before.0 c.loop.each c.in-Some.dropped.number c.each.new.self before.1 c.each.ensures);
   stands = of-some c.in_ok-dropped.field-0 c.in-Some.dropped _ c.in-Some.is c.in_ok-dropped.ensures.stands;

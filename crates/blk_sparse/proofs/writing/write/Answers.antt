@@ -54,7 +54,7 @@ returns-clause-ordered g c = on_ok_weaker c.write_covered.result
     (λ ends from there state layout unlinked number object can.
     let at = stays-there (g.F.Folder.told c.args.f.now) (g.F.Folder.told c.read_key.new.folder) from there c.in_ok-len.ensures.reads.stays in
     let same = key-same state layout unlinked number object c.args.parent.now.node c.args.parent.now.entry (cast_unsigned w64 c.args.parent.now.signature) from can.parent c.in_ok-len.len c.read_key.new.name c.split_at_mut-key.result.0.now c.split_at_mut-key.ensures.front c.in_ok-len.ensures.short (c.in_ok-len.ensures.key from there) in
-    subst (λ (t : Told). AreInOrder (covered_parts c.args.data.offset (length c.args.data.bytes.now)) state layout unlinked number object c.args.parent.now.entry (cast_unsigned w64 c.args.parent.now.signature) c.args.data.offset c.args.data.bytes.now t (g.F.Folder.told c.write_covered.new.folder)) c.in_ok-len.ensures.reads.stays
+    subst (λ (t : Told). AreInOrder (covered_parts c.args.data.offset (length c.args.data.bytes.now)) (record { state = state; layout = layout; unlinked = unlinked; number = number; object = object }) c.args.parent.now.entry (cast_unsigned w64 c.args.parent.now.signature) c.args.data.offset c.args.data.bytes.now t (g.F.Folder.told c.write_covered.new.folder)) c.in_ok-len.ensures.reads.stays
     (ends from at state layout unlinked number object c.args.parent.now.node can same))
     c.write_covered.ensures.ordered
 
