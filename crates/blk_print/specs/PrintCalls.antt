@@ -10,8 +10,8 @@ abbrev pub SaysText : {S : Type 0} → (failed_before failed : Bool) → (writte
 SaysText failed_before failed written old new text = PrintsUnlessFailed failed_before failed (written old) (written new) text
 
 -- a prefix of the text is printed, and nothing where the output had failed before
-abbrev pub SaysPart : {S : Type 0} → (failed_before : Bool) → (written : S → Option (List ℕ)) → (old new : S) → (text : List ℕ) → Type 0
-SaysPart failed_before written old new text = PrintsInPart failed_before (written old) (written new) text
+abbrev pub SaysInPart : {S : Type 0} → (failed_before : Bool) → (written : S → Option (List ℕ)) → (old new : S) → (text : List ℕ) → Type 0
+SaysInPart failed_before written old new text = PrintsInPart failed_before (written old) (written new) text
 
 -- the text of a reply that gives these bytes
 abbrev pub reply_with : (bytes : List ℕ) → List ℕ

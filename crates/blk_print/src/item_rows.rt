@@ -15,7 +15,7 @@ ghost use Rattle.blk_object.specs.ListedParts.{LoadsSomeAt};
 ghost use Rattle.blk_object.specs.ListWalks.{WalkEnds};
 ghost use Rattle.blk_print.specs.ItemRows.{HasKeptState, IsItemToldBy, ForKeptRows, ForRowAt, ForRowOf};
 ghost use Rattle.blk_evict.specs.RoomPrinting.{FailsWhereItRose};
-ghost use Rattle.blk_print.specs.PrintCalls.{SaysText, SaysPart};
+ghost use Rattle.blk_print.specs.PrintCalls.{SaysText, SaysInPart};
 
 use crate::row_printing::{say_part, say_plain, say_sparse};
 use blk_addr::Addr;
@@ -42,7 +42,7 @@ pub fn print_items<F: Folder, K: Sink>(
 ) -> Result<(), Fault>
     requires buffer { most_key ≤ length name.old }
     ensures printed { OnOk result (ForKeptRows (F.told folder.old) files.now (SaysText failed.old failed.new K.written out.old out.new)) }
-    ensures part { ForKeptRows (F.told folder.old) files.now (SaysPart failed.old K.written out.old out.new) }
+    ensures part { ForKeptRows (F.told folder.old) files.now (SaysInPart failed.old K.written out.old out.new) }
 
     // On every folder it is done only where the list ends.
     ensures ends { OnOk result (ForSome (F.told folder.old).files (WalkEnds files.now NodeView.NEXT None)) }

@@ -12,7 +12,7 @@ ghost use Rattle.blk_disk.specs.Tables.{is_record_among, stands_among};
 ghost use Rattle.blk_object.specs.FailedChecks.{IsFailedCheck};
 ghost use Rattle.blk_print.specs.PresentPrinting.{HasPresent, ForPresentBytes, ForPresentBytesIn, HasPresentIn};
 ghost use Rattle.blk_evict.specs.RoomPrinting.{FailsWhereItRose};
-ghost use Rattle.blk_print.specs.PrintCalls.{SaysText, SaysPart};
+ghost use Rattle.blk_print.specs.PrintCalls.{SaysText, SaysInPart};
 
 use crate::range_printing::{StreamRange, print_range, print_ranges};
 use blk_addr::Addr;
@@ -50,7 +50,7 @@ pub fn print_present<F: Folder, K: Sink>(
     requires inside { range.now.offset + range.now.count ≤ largest_offset }
     requires is_open { ForSome (F.told folder.old).files (IsOpen files.now) }
     ensures printed { OnOk result (ForPresentBytes (F.told folder.old) range.now (SaysText failed.old failed.new K.written out.old out.new)) }
-    ensures part { ForPresentBytes (F.told folder.old) range.now (SaysPart failed.old K.written out.old out.new) }
+    ensures part { ForPresentBytes (F.told folder.old) range.now (SaysInPart failed.old K.written out.old out.new) }
     ensures failed { FailsWhereItRose failed.old failed.new (K.faults out.old) (K.faults out.new) }
     ensures reads { ReadsOnly F.told F.faults folder.old folder.new (IfDevice result) }
 
@@ -90,7 +90,7 @@ fn print_parts<F: Folder, K: Sink>(
     requires second_stands { IfSome parts.now.second (λ entry. IsTrue (stands_among files.now entry)) }
     requires is_open { ForSome (F.told folder.old).files (IsOpen files.now) }
     ensures printed { OnOk result (ForPresentBytesIn (F.told folder.old) range.now parts.now (SaysText failed.old failed.new K.written out.old out.new)) }
-    ensures part { ForPresentBytesIn (F.told folder.old) range.now parts.now (SaysPart failed.old K.written out.old out.new) }
+    ensures part { ForPresentBytesIn (F.told folder.old) range.now parts.now (SaysInPart failed.old K.written out.old out.new) }
     ensures failed { FailsWhereItRose failed.old failed.new (K.faults out.old) (K.faults out.new) }
     ensures reads { ReadsOnly F.told F.faults folder.old folder.new (IfDevice result) }
     ensures damaged { IfDamaged result (IsFailedCheck files.now (F.told folder.new)) }

@@ -9,7 +9,7 @@ ghost use Rattle.blk_script.specs.Spelling.{data_text, number_text};
 ghost use Rattle.blk_object.specs.FailedChecks.{IsFailedCheck};
 ghost use Rattle.blk_print.specs.RangePrinting.{HasBytes, ForText, ForRanges, WhereRanges};
 ghost use Rattle.blk_evict.specs.RoomPrinting.{FailsWhereItRose, PrintsUnlessFailed};
-ghost use Rattle.blk_print.specs.PrintCalls.{SaysText, SaysPart, reply_with};
+ghost use Rattle.blk_print.specs.PrintCalls.{SaysText, SaysInPart, reply_with};
 
 use blk_addr::Addr;
 use blk_disk::BlockFiles;
@@ -46,7 +46,7 @@ pub fn print_range<F: Folder, K: Sink>(
     requires stream { range.now.stream < 3 }
     requires fits { range.now.offset + range.now.count < 2 ^ 64 }
     ensures printed { OnOk result (ForText (F.told folder.old) files.now range.now reply_with (SaysText failed.old failed.new K.written out.old out.new)) }
-    ensures part { ForText (F.told folder.old) files.now range.now reply_with (SaysPart failed.old K.written out.old out.new) }
+    ensures part { ForText (F.told folder.old) files.now range.now reply_with (SaysInPart failed.old K.written out.old out.new) }
     ensures failed { FailsWhereItRose failed.old failed.new (K.faults out.old) (K.faults out.new) }
     ensures reads { ReadsOnly F.told F.faults folder.old folder.new (IfDevice result) }
     ensures damaged { IfDamaged result (IsFailedCheck files.now (F.told folder.new)) }
@@ -80,7 +80,7 @@ pub(crate) fn print_ranges<F: Folder, K: Sink>(
     requires first_fits { first.now.offset + first.now.count < 2 ^ 64 }
     requires second_fits { second.now.offset + second.now.count < 2 ^ 64 }
     ensures printed { OnOk result (ForRanges (F.told folder.old) files.now first.now second.now (SaysText failed.old failed.new K.written out.old out.new)) }
-    ensures part { ForRanges (F.told folder.old) files.now first.now second.now (SaysPart failed.old K.written out.old out.new) }
+    ensures part { ForRanges (F.told folder.old) files.now first.now second.now (SaysInPart failed.old K.written out.old out.new) }
     ensures failed { FailsWhereItRose failed.old failed.new (K.faults out.old) (K.faults out.new) }
     ensures reads { ReadsOnly F.told F.faults folder.old folder.new (IfDevice result) }
     ensures damaged { IfDamaged result (IsFailedCheck files.now (F.told folder.new)) }
@@ -106,7 +106,7 @@ fn print_data<F: Folder, K: Sink>(
     requires stream { range.now.stream < 3 }
     requires fits { range.now.offset + range.now.count < 2 ^ 64 }
     ensures printed { OnOk result (ForText (F.told folder.old) files.now range.now data_text (SaysText failed.old failed.new K.written out.old out.new)) }
-    ensures part { ForText (F.told folder.old) files.now range.now data_text (SaysPart failed.old K.written out.old out.new) }
+    ensures part { ForText (F.told folder.old) files.now range.now data_text (SaysInPart failed.old K.written out.old out.new) }
     ensures failed { FailsWhereItRose failed.old failed.new (K.faults out.old) (K.faults out.new) }
     ensures reads { ReadsOnly F.told F.faults folder.old folder.new (IfDevice result) }
     ensures damaged { IfDamaged result (IsFailedCheck files.now (F.told folder.new)) }
@@ -132,7 +132,7 @@ fn print_pieces<F: Folder, K: Sink>(
     requires stream { range.now.stream < 3 }
     requires fits { range.now.offset + range.now.count < 2 ^ 64 }
     ensures printed { OnOk result (ForText (F.told folder.old) files.now range.now encode_lower (SaysText failed.old failed.new K.written out.old out.new)) }
-    ensures part { ForText (F.told folder.old) files.now range.now encode_lower (SaysPart failed.old K.written out.old out.new) }
+    ensures part { ForText (F.told folder.old) files.now range.now encode_lower (SaysInPart failed.old K.written out.old out.new) }
     ensures failed { FailsWhereItRose failed.old failed.new (K.faults out.old) (K.faults out.new) }
     ensures reads { ReadsOnly F.told F.faults folder.old folder.new (IfDevice result) }
     ensures damaged { IfDamaged result (IsFailedCheck files.now (F.told folder.new)) }
