@@ -17,7 +17,7 @@ use Rattle.blk_object.specs.declared.owning.Owned.{Owned}
 use Rattle.blk_object.specs.RemovingObjects.{FindsEither, IsOwnedBy}
 use Rattle.blk_sparse.specs.declared.dropping.Gone.{Gone}
 use Rattle.blk_sparse.specs.Parents.{ForEachParent, IsGoneWhole, IsGroupTold}
-use Rattle.blk_evict.specs.declared.evicting_groups.ReadParent.{ReadParent}
+use Rattle.blk_evict.specs.declared.read_parent.ReadParent.{ReadParent}
 use Rattle.blk_evict.specs.declared.item_names.EntryKind.{EntryKind}
 use Rattle.blk_evict.specs.declared.item_names.EntryKind.TheVariants.{Parent}
 use Rattle.blk_evict.specs.declared.list_places.Unpinned.{Unpinned}

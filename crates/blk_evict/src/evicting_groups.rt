@@ -22,6 +22,7 @@ ghost use Rattle.blk_evict.specs.EvictionCalls.{ForGoing, ForGoingLines, ForLine
 
 use crate::item_names::{EntryKind, read_name};
 use crate::list_places::Unpinned;
+use crate::read_parent::ReadParent;
 use crate::room_printing::{say_evicted, say_evicted_part};
 use blk_addr::Addr;
 use blk_chain::{Found, find};
@@ -32,14 +33,6 @@ use blk_object::{Owned, remove_read};
 use blk_ranges::{ChildName, KEY_OF_NAME, LONGEST_KEY, read_child_name};
 use blk_record::{CHILD, EntryView};
 use blk_sparse::{Gone, remove_parent_with};
-
-/// A parent that is evicted, by what was read of it: where it was found, its key, and what its record owns.
-#[derive(Clone, Copy)]
-pub(crate) struct ReadParent<'a> {
-    pub(crate) found: &'a Unpinned,
-    pub(crate) key: &'a [u8],
-    pub(crate) owned: &'a Owned,
-}
 
 /// Removes the eviction unit of an item that isn't pinned, and prints its items: a main item with its parts, or a part alone. How
 /// many items were evicted is given, and the sum of their costs.

@@ -5,6 +5,7 @@ mod evicting_groups;
 mod item_names;
 mod list_places;
 mod looking;
+mod read_parent;
 mod room_laws;
 mod room_printing;
 
