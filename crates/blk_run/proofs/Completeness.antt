@@ -3,6 +3,7 @@ use Rattle.std.proofs.Common.{ℕ, ◌≤◌, ◌≡◌, List, ◌∷◌, ◌++�
 use Rattle.std.specs.Option.{option_map}
 use Rattle.std.proofs.lemmas.List.{length-append}
 use Rattle.spec_image.specs.Image.{Image}
+use Rattle.spec_image.specs.Told.{Rises}
 use Rattle.blk_model.specs.State.{Bounds}
 use Rattle.spec_folder.specs.Found.{found}
 use Rattle.blk_io.specs.Streams.{Readings}
@@ -13,7 +14,7 @@ use Rattle.spec_run.specs.Script.{Script, session_script}
 use Rattle.blk_run.specs.declared.ending.Status.{Status}
 use Rattle.blk_run.specs.declared.ending.Status.TheVariants as status
 use Rattle.blk_run.specs.Inputs.{IsPastBudget}
-use Rattle.blk_run.specs.Session.{Ending, FixedMayEnd, FixedScript, IsComplete, IsCompleteScript, MayEnd, Outside, Printed, Session, all_made, ended_run, fixed_run, session_run, taken, unprinted}
+use Rattle.blk_run.specs.Session.{Ending, FixedMayEnd, FixedScript, IsComplete, IsCompleteScript, MayEnd, Outside, Printed, Session, all_made, ended_run, fixed_run, seen_as, session_run, taken, unprinted}
 
 printed_as : (run other : Run) (old new : Option (List ℕ)) → run ≡ other → new ≡ option_map (λ (w : List ℕ). w ++ text_of run.turns) old → new ≡ option_map (λ (w : List ℕ). w ++ text_of other.turns) old
 printed_as run other old new same printed = printed ∙ ap (λ (r : Run). option_map (λ (w : List ℕ). w ++ text_of r.turns) old) same
@@ -28,26 +29,26 @@ past budget input bytes left more within =
     nothing : 1 ≤ 0 → ⊥
     nothing below = absurd (omega (arith, below))
 
-module _ (limits : Bounds) (budget : ℕ) (from : Image) (readings : Readings) (input : List ℕ) (source sink device : Type 0) (old new : Outside) (within : length input ≤ budget)
-    (no_device : device → ⊥) (no_source : source → ⊥) (no_sink : sink → ⊥) where
-  whole_ok : (ending : Ending) (run : Run) → run ≡ ended_run by_lines from limits readings input ending → MayEnd by_lines status.Ok ending budget input run new.left source sink → Printed status.Ok ending run old new → IsComplete by_lines status.Ok limits from readings input old new
+module _ (limits : Bounds) (budget : ℕ) (from : Image) (readings : Readings) (input : List ℕ) (device source : Type 0) (before now : ℕ) (old new : Outside) (within : length input ≤ budget)
+    (no_device : device → ⊥) (no_source : source → ⊥) (no_sink : Rises before now → ⊥) where
+  whole_ok : (ending : Ending) (run : Run) → run ≡ ended_run by_lines from limits readings input ending → MayEnd by_lines status.Ok ending budget input run new.left source (Rises before now) → Printed status.Ok ending run old new → IsComplete by_lines status.Ok limits from readings input old new
   whole_ok all_made run is may printed = printed_as run (session_run from limits readings (session_script 1 (lines input))) old.written new.written is printed
   whole_ok (taken bytes) run is may printed = absurd may
   whole_ok (unprinted count) run is may printed = absurd may
 
-  whole_refused : (ending : Ending) (run : Run) → run ≡ ended_run by_lines from limits readings input ending → MayEnd by_lines status.Refused ending budget input run new.left source sink → Printed status.Refused ending run old new
+  whole_refused : (ending : Ending) (run : Run) → run ≡ ended_run by_lines from limits readings input ending → MayEnd by_lines status.Refused ending budget input run new.left source (Rises before now) → Printed status.Refused ending run old new
       → IsComplete by_lines status.Refused limits from readings input old new
   whole_refused all_made run is may printed = printed_as run (session_run from limits readings (session_script 1 (lines input))) old.written new.written is printed
   whole_refused (taken bytes) run is may printed = absurd may
   whole_refused (unprinted count) run is may printed = absurd may
 
-  never_long : (ending : Ending) (run : Run) → MayEnd by_lines status.TooLong ending budget input run new.left source sink → ⊥
+  never_long : (ending : Ending) (run : Run) → MayEnd by_lines status.TooLong ending budget input run new.left source (Rises before now) → ⊥
   never_long all_made run may = may
   never_long (taken bytes) run may = past budget input bytes new.left may within
   never_long (unprinted count) run may = may
 
   -- a session
-  pub complete : (result : Status) → (result ≡ status.Device → device) → (result ≡ status.Source → source) → (result ≡ status.Sink → sink) → Session by_lines result limits budget from readings input source sink old new
+  pub complete : (result : Status) → (result ≡ status.Device → device) → (result ≡ status.Source → source) → (result ≡ status.Sink → Rises before now) → Session by_lines result limits budget from readings input (seen_as old new device source before now)
       → IsComplete by_lines result limits from readings input old new
   complete status.Ok on_device on_source on_sink session = whole_ok session.ending session.run session.is session.may_end session.ends.printed
   complete status.Refused on_device on_source on_sink session = whole_refused session.ending session.run session.is session.may_end session.ends.printed

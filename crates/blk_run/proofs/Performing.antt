@@ -16,7 +16,7 @@ use Rattle.blk_run.specs.declared.ending.Status.{Status}
 use Rattle.blk_run.specs.declared.ending.Status.TheVariants as status
 use Rattle.blk_run.specs.Failing.{IsDamagedRun}
 use Rattle.blk_run.specs.Inputs.{IsReadWhole, IsTakenPast, IsTakenUpTo}
-use Rattle.blk_run.specs.Session.{DoesNothing, FixedScript, IsCompleteScript, LeavesUnput, OnDamage, Outside, Put, outside, with_given, with_readings, Session}
+use Rattle.blk_run.specs.Session.{DoesNothing, FixedScript, IsCompleteScript, LeavesUnput, OnDamage, Outside, Put, Seen, Session, outside, seen_as, seen_given, with_given, with_left, with_readings}
 use Rattle.blk_run.specs.Statuses.{CauseOf}
 use Rattle.blk_script.specs.declared.fault.LineFault.{LineFault}
 use Rattle.blk_run.specs.WholeInputs.{IsWholeInBuffer, longest_input}
@@ -94,22 +94,22 @@ pub record RunsScript (script : Script) (result : Status) (limits : Bounds) (dev
   pub memory : result ≡ status.Memory → DoesNothing old new
 
 -- the whole input was read, and then the script of it was run
-put_of : (limits : Bounds) (old new : Outside) (s : Status) (script : List ℕ → Script) (from : Image) (readings : Readings) (input : List ℕ) (sink : Type 0) → IsReadWhole longest_input input new.left → FixedScript s (script input) limits from readings sink (record old { left = new.left }) new
-    → Put s script limits from readings input sink old new
-put_of limits old new status.Ok script from readings input sink whole runs = (whole, runs)
-put_of limits old new status.Refused script from readings input sink whole runs = (whole, runs)
-put_of limits old new status.Words script from readings input sink whole runs = (whole, runs)
-put_of limits old new status.Device script from readings input sink whole runs = (whole, runs)
-put_of limits old new status.Source script from readings input sink whole runs = absurd runs.may_end
-put_of limits old new status.Sink script from readings input sink whole runs = (whole, runs)
-put_of limits old new status.Memory script from readings input sink whole runs = (inr whole, record { unwritten = runs.unwritten; unprinted = runs.unprinted })
-put_of limits old new status.Damaged script from readings input sink whole runs = (whole, runs)
-put_of limits old new status.TooLong script from readings input sink whole runs = absurd runs.may_end
+put_of : (limits : Bounds) (seen : Seen) (s : Status) (script : List ℕ → Script) (from : Image) (readings : Readings) (input : List ℕ) → IsReadWhole longest_input input seen.new.left
+    → FixedScript s (script input) limits from readings (Rises seen.before seen.now) (with_left seen.old seen.new.left) seen.new → Put s script limits from readings input seen
+put_of limits seen status.Ok script from readings input whole runs = (whole, runs)
+put_of limits seen status.Refused script from readings input whole runs = (whole, runs)
+put_of limits seen status.Words script from readings input whole runs = (whole, runs)
+put_of limits seen status.Device script from readings input whole runs = (whole, runs)
+put_of limits seen status.Source script from readings input whole runs = absurd runs.may_end
+put_of limits seen status.Sink script from readings input whole runs = (whole, runs)
+put_of limits seen status.Memory script from readings input whole runs = (inr whole, record { unwritten = runs.unwritten; unprinted = runs.unprinted })
+put_of limits seen status.Damaged script from readings input whole runs = (whole, runs)
+put_of limits seen status.TooLong script from readings input whole runs = absurd runs.may_end
 
 module _ (result : Status) (limits : Bounds) (device source : Type 0) (before now : ℕ) (old new : Outside) where
   -- a script that leaves the input unread
-  pub script_performs : (script other : Script) → script ≡ other → new.left ≡ old.left → RunsScript script result limits device before now old new → Performs (no_input other) result limits device source before now old new
-  script_performs script other same unread runs = subst (λ (s : Script). Performs (no_input s) result limits device source before now old new) same (record {
+  pub script_performs : (script other : Script) → script ≡ other → new.left ≡ old.left → RunsScript script result limits device before now old new → Performs (no_input other) result limits (seen_as old new device source before now)
+  script_performs script other same unread runs = subst (λ (s : Script). Performs (no_input s) result limits (seen_as old new device source before now)) same (record {
     plays = λ from there usable. reads_map (runs.plays from there usable) (λ readings later does. subst (λ (l : Option (List ℕ)). FixedScript result script limits from readings (Rises before now) (with_readings old readings) (outside new.folder new.written l (Some later))) (sym unread) (does old.left));
     complete = λ from there usable no_device no_source no_sink readings clock. runs.complete from there usable readings clock no_device no_sink;
     damage = runs.damage;
@@ -119,7 +119,7 @@ module _ (result : Status) (limits : Bounds) (device source : Type 0) (before no
   })
 
   -- a call that has no input
-  pub performs_wider : (script : Script) → Performs (no_input script) result limits device ⊥ before now old new → Performs (no_input script) result limits device source before now old new
+  pub performs_wider : (script : Script) → Performs (no_input script) result limits (seen_as old new device ⊥ before now) → Performs (no_input script) result limits (seen_as old new device source before now)
   performs_wider script does = record {
     plays = does.plays;
     complete = λ from there usable no_device no_source no_sink readings clock. does.complete from there usable no_device (λ x. x) no_sink readings clock;
@@ -145,10 +145,10 @@ module _ (result : Status) (limits : Bounds) (device source : Type 0) (before no
   -- the whole input was read, and then the script of it was run
   pub put_performs : (script : List ℕ → Script) (bytes : List ℕ) (played : Script) → played ≡ script bytes → ForSome old.left (λ input. (bytes ≡ input) × IsReadWhole longest_input input new.left)
       → TakesAs old.left new.left (λ input rest. (bytes ≡ input) × IsReadWhole longest_input input (Some rest))
-      → RunsScript played result limits device before now (record old { left = new.left }) new → Performs (whole_input script) result limits device source before now old new
+      → RunsScript played result limits device before now (record old { left = new.left }) new → Performs (whole_input script) result limits (seen_as old new device source before now)
   put_performs script bytes played same whole given runs = record {
     plays = λ from there usable. reads_map (runs.plays from there usable) (λ readings later does. takes_map given (λ input rest is.
-        put_of limits (with_given old readings input) (with_given new later rest) result script from readings input (Rises before now) is.1
+        put_of limits (seen_given (seen_as old new device source before now) readings later input rest) result script from readings input is.1
         (subst (λ (s : Script). FixedScript result s limits from readings (Rises before now) (outside old.folder old.written (Some rest) (Some readings)) (with_given new later rest)) (same ∙ ap script is.0) (does (Some rest)))));
     complete = λ from there usable no_device no_source no_sink readings clock input left within.
         subst (λ (s : Script). IsCompleteScript result s limits from readings (record old { left = new.left }) new) (same ∙ ap script (whole input left).0) (runs.complete from there usable readings clock no_device no_sink);
@@ -161,7 +161,7 @@ module _ (result : Status) (limits : Bounds) (device source : Type 0) (before no
 -- Where nothing was done.
 
 -- out of memory
-pub idle_script : (script : Script) (limits : Bounds) (device source : Type 0) (before now : ℕ) (old new : Outside) → ReadsAs old.clock new.clock (λ _ _. Unit {0}) → DoesNothing old new → Performs (no_input script) status.Memory limits device source before now old new
+pub idle_script : (script : Script) (limits : Bounds) (device source : Type 0) (before now : ℕ) (old new : Outside) → ReadsAs old.clock new.clock (λ _ _. Unit {0}) → DoesNothing old new → Performs (no_input script) status.Memory limits (seen_as old new device source before now)
 idle_script script limits device source before now old new clock nothing = record {
   plays = λ from there usable. reads_map clock (λ readings later none. record { unwritten = nothing.unwritten; unread = nothing.unread; unprinted = nothing.unprinted });
   complete = λ from there usable no_device no_source no_sink readings clock. nothing;
@@ -171,7 +171,7 @@ idle_script script limits device source before now old new clock nothing = recor
   memory = λ is. nothing;
 }
 
-pub idle_put : (script : List ℕ → Script) (limits : Bounds) (device source : Type 0) (before now : ℕ) (old new : Outside) → ReadsAs old.clock new.clock (λ _ _. Unit {0}) → DoesNothing old new → Performs (whole_input script) status.Memory limits device source before now old new
+pub idle_put : (script : List ℕ → Script) (limits : Bounds) (device source : Type 0) (before now : ℕ) (old new : Outside) → ReadsAs old.clock new.clock (λ _ _. Unit {0}) → DoesNothing old new → Performs (whole_input script) status.Memory limits (seen_as old new device source before now)
 idle_put script limits device source before now old new clock nothing = record {
   plays = λ from there usable. reads_map clock (λ readings later none. takes_map (takes_same [] nothing.unread) (λ input rest same. (inl (ap Some same), record { unwritten = nothing.unwritten; unprinted = nothing.unprinted })));
   complete = λ from there usable no_device no_source no_sink readings clock input left within. record { unwritten = nothing.unwritten; unread = refl; unprinted = nothing.unprinted };
@@ -183,7 +183,7 @@ idle_put script limits device source before now old new clock nothing = record {
 
 -- the input failed
 pub unread_put : (script : List ℕ → Script) (limits : Bounds) (device source : Type 0) (before now : ℕ) (old new : Outside) → source → ReadsAs old.clock new.clock (λ _ _. Unit {0}) → ForSome old.left (IsTakenUpTo longest_input new.left) → TakesAs old.left new.left (λ input rest. IsTakenUpTo longest_input (Some rest) input) → LeavesUnput old new
-    → Performs (whole_input script) status.Source limits device source before now old new
+    → Performs (whole_input script) status.Source limits (seen_as old new device source before now)
 unread_put script limits device source before now old new rose clock taken given nothing = record {
   plays = λ from there usable. reads_map clock (λ readings later none. takes_map given (λ input rest is. (is, record { unwritten = nothing.unwritten; unprinted = nothing.unprinted })));
   complete = λ from there usable no_device no_source no_sink readings clock input left within. no_source rose;
@@ -195,7 +195,7 @@ unread_put script limits device source before now old new rose clock taken given
 
 -- it has too many bytes
 pub long_put : (script : List ℕ → Script) (limits : Bounds) (device source : Type 0) (before now : ℕ) (old new : Outside) → ReadsAs old.clock new.clock (λ _ _. Unit {0}) → ForSome old.left (IsTakenPast longest_input new.left) → TakesAs old.left new.left (λ input rest. IsTakenPast longest_input (Some rest) input) → LeavesUnput old new
-    → Performs (whole_input script) status.TooLong limits device source before now old new
+    → Performs (whole_input script) status.TooLong limits (seen_as old new device source before now)
 long_put script limits device source before now old new clock past given nothing = record {
   plays = λ from there usable. reads_map clock (λ readings later none. takes_map given (λ input rest is. (is, record { unwritten = nothing.unwritten; unprinted = nothing.unprinted })));
   complete = λ from there usable no_device no_source no_sink readings clock input left within. too_many (length input) within (past_long longest_input new.left input (past input left));
@@ -211,21 +211,21 @@ long_put script limits device source before now old new clock past given nothing
 -- Where clock and input are observable.
 
 -- the contract of the work with the observed readings and bytes
-abbrev pub DoesToldWork : Work → Status → Bounds → Image → Readings → List ℕ → (source sink : Type 0) → Outside → Outside → Type 0
-DoesToldWork (input_by protocol) result limits from readings input source sink old new = Session protocol result limits budget from readings input source sink old new
-DoesToldWork (whole_input script) result limits from readings input source sink old new = Put result script limits from readings input sink old new
-DoesToldWork (no_input script) result limits from readings input source sink old new = FixedScript result script limits from readings sink old new
-DoesToldWork (folder_text text) result limits from readings input source sink old new = ShowsText result (text from) old new
+abbrev pub DoesToldWork : Work → Status → Bounds → Image → Readings → List ℕ → Seen → Type 0
+DoesToldWork (input_by protocol) result limits from readings input seen = Session protocol result limits budget from readings input seen
+DoesToldWork (whole_input script) result limits from readings input seen = Put result script limits from readings input seen
+DoesToldWork (no_input script) result limits from readings input seen = FixedScript result script limits from readings (Rises seen.before seen.now) seen.old seen.new
+DoesToldWork (folder_text text) result limits from readings input seen = ShowsText result (text from) seen.old seen.new
 
 -- where clock and input are observable, the work is the run of the readings and the bytes to come
-pub work_of_told : (work : Work) (result : Status) (limits : Bounds) (from : Image) (source sink : Type 0) (old new : Outside) → DoesWork work result limits from source sink old new
-    → (readings : Readings) → old.clock ≡ Some readings → (input : List ℕ) → old.left ≡ Some input → DoesToldWork work result limits from readings input source sink old new
-work_of_told (input_by protocol) result limits from source sink old new does readings clock input left =
-    takes_told (λ (b : List ℕ) (x y : Option (List ℕ)). Session protocol result limits budget from readings b source sink (outside old.folder old.written x old.clock) (outside new.folder new.written y new.clock))
-    (reads_told (λ (r : Readings) (o n : Option Readings). TakesAs old.left new.left (λ b a. Session protocol result limits budget from r b source sink (outside old.folder old.written (Some b) o) (outside new.folder new.written (Some a) n))) does readings clock) input left
-work_of_told (whole_input script) result limits from source sink old new does readings clock input left =
-    takes_told (λ (b : List ℕ) (x y : Option (List ℕ)). Put result script limits from readings b sink (outside old.folder old.written x old.clock) (outside new.folder new.written y new.clock))
-    (reads_told (λ (r : Readings) (o n : Option Readings). TakesAs old.left new.left (λ b a. Put result script limits from r b sink (outside old.folder old.written (Some b) o) (outside new.folder new.written (Some a) n))) does readings clock) input left
-work_of_told (no_input script) result limits from source sink old new does readings clock input left =
-    reads_told (λ (r : Readings) (o n : Option Readings). FixedScript result script limits from r sink (outside old.folder old.written old.left o) (outside new.folder new.written new.left n)) does readings clock
-work_of_told (folder_text text) result limits from source sink old new does readings clock input left = does
+pub work_of_told : (work : Work) (result : Status) (limits : Bounds) (from : Image) (old new : Outside) (device source : Type 0) (before now : ℕ) → DoesWork work result limits from (seen_as old new device source before now)
+    → (readings : Readings) → old.clock ≡ Some readings → (input : List ℕ) → old.left ≡ Some input → DoesToldWork work result limits from readings input (seen_as old new device source before now)
+work_of_told (input_by protocol) result limits from old new device source before now does readings clock input left =
+    takes_told (λ (b : List ℕ) (x y : Option (List ℕ)). Session protocol result limits budget from readings b (seen_as (outside old.folder old.written x old.clock) (outside new.folder new.written y new.clock) device source before now))
+    (reads_told (λ (r : Readings) (o n : Option Readings). TakesAs old.left new.left (λ b a. Session protocol result limits budget from r b (seen_as (outside old.folder old.written (Some b) o) (outside new.folder new.written (Some a) n) device source before now))) does readings clock) input left
+work_of_told (whole_input script) result limits from old new device source before now does readings clock input left =
+    takes_told (λ (b : List ℕ) (x y : Option (List ℕ)). Put result script limits from readings b (seen_as (outside old.folder old.written x old.clock) (outside new.folder new.written y new.clock) device source before now))
+    (reads_told (λ (r : Readings) (o n : Option Readings). TakesAs old.left new.left (λ b a. Put result script limits from r b (seen_as (outside old.folder old.written (Some b) o) (outside new.folder new.written (Some a) n) device source before now))) does readings clock) input left
+work_of_told (no_input script) result limits from old new device source before now does readings clock input left =
+    reads_told (λ (r : Readings) (o n : Option Readings). FixedScript result script limits from r (Rises before now) (outside old.folder old.written old.left o) (outside new.folder new.written new.left n)) does readings clock
+work_of_told (folder_text text) result limits from old new device source before now does readings clock input left = does

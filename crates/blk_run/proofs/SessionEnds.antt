@@ -25,7 +25,7 @@ use Rattle.blk_run.specs.declared.input.InputEnd.TheVariants as end
 use Rattle.blk_run.specs.Ending.{EndsRun}
 use Rattle.blk_run.specs.Inputs.{IfFailed, IfTooLong, IsTakenUpTo, PlaysInput}
 use Rattle.blk_run.specs.Playing.{Around, SoFar, StandsAt}
-use Rattle.blk_run.specs.Session.{Ending, MayEnd, Outside, Runs, Session, all_made, taken, unprinted}
+use Rattle.blk_run.specs.Session.{Ending, MayEnd, Outside, Runs, Seen, Session, all_made, taken, unprinted}
 use Rattle.blk_run.specs.Statuses.{CauseOf, may_close, status_after}
 use Rattle.blk_run.proofs.Assembling.{begins, begun_far, exit_device, exit_long, exit_long_device, exit_ok, exit_refused, exit_sink, exit_sink_device, exit_source, exit_source_device, exit_whole_device}
 use Rattle.blk_run.proofs.Parts.{handed_on}
@@ -88,28 +88,28 @@ module _ (from : Image) (limits : Bounds) (readings : Readings) (old : Outside) 
   stopped_runs (Err (step_fault.Damaged damage)) may plays same = absurd plays.part.plays
 
 -- a run as a session
-pub session_of_runs : (r : Status) (limits : Bounds) (budget : ℕ) (from : Image) (readings : Readings) (input : List ℕ) (source sink : Type 0) (old new : Outside) → Runs by_lines r limits budget from readings input source sink old new → Session by_lines r limits budget from readings input source sink old new
-session_of_runs status.Ok limits budget from readings input source sink old new runs = runs
-session_of_runs status.Refused limits budget from readings input source sink old new runs = runs
-session_of_runs status.Source limits budget from readings input source sink old new runs = runs
-session_of_runs status.Sink limits budget from readings input source sink old new runs = runs
-session_of_runs status.TooLong limits budget from readings input source sink old new runs = runs
-session_of_runs status.Device limits budget from readings input source sink old new runs = inl runs
-session_of_runs status.Words limits budget from readings input source sink old new runs = none runs.ending runs.may_end
+pub session_of_runs : (r : Status) (limits : Bounds) (budget : ℕ) (from : Image) (readings : Readings) (input : List ℕ) (seen : Seen) → Runs by_lines r limits budget from readings input seen.source (Rises seen.before seen.now) seen.old seen.new → Session by_lines r limits budget from readings input seen
+session_of_runs status.Ok limits budget from readings input seen runs = runs
+session_of_runs status.Refused limits budget from readings input seen runs = runs
+session_of_runs status.Source limits budget from readings input seen runs = runs
+session_of_runs status.Sink limits budget from readings input seen runs = runs
+session_of_runs status.TooLong limits budget from readings input seen runs = runs
+session_of_runs status.Device limits budget from readings input seen runs = inl runs
+session_of_runs status.Words limits budget from readings input seen runs = none runs.ending runs.may_end
   where
-    none : (ending : Ending) → MayEnd by_lines status.Words ending budget input runs.run new.left source sink → ⊥
+    none : (ending : Ending) → MayEnd by_lines status.Words ending budget input runs.run seen.new.left seen.source (Rises seen.before seen.now) → ⊥
     none all_made end = end
     none (taken bytes) end = end
     none (unprinted count) end = end
-session_of_runs status.Damaged limits budget from readings input source sink old new runs = none runs.ending runs.may_end
+session_of_runs status.Damaged limits budget from readings input seen runs = none runs.ending runs.may_end
   where
-    none : (ending : Ending) → MayEnd by_lines status.Damaged ending budget input runs.run new.left source sink → ⊥
+    none : (ending : Ending) → MayEnd by_lines status.Damaged ending budget input runs.run seen.new.left seen.source (Rises seen.before seen.now) → ⊥
     none all_made end = end
     none (taken bytes) end = end
     none (unprinted count) end = end
-session_of_runs status.Memory limits budget from readings input source sink old new runs = absurd (none runs.ending runs.may_end)
+session_of_runs status.Memory limits budget from readings input seen runs = absurd (none runs.ending runs.may_end)
   where
-    none : (ending : Ending) → MayEnd by_lines status.Memory ending budget input runs.run new.left source sink → ⊥
+    none : (ending : Ending) → MayEnd by_lines status.Memory ending budget input runs.run seen.new.left seen.source (Rises seen.before seen.now) → ⊥
     none all_made end = end
     none (taken bytes) end = end
     none (unprinted count) end = end

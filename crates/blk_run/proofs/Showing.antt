@@ -14,7 +14,7 @@ use Rattle.blk_inspect.specs.declared.fault.InspectFault.TheVariants as fault
 use Rattle.blk_inspect.specs.Inspecting.{AnswersFor, IfInspectDamaged, IfInspectDevice, IfInspectSink, IsInspectDamage, PrintsAt, UnlessSink}
 use Rattle.blk_run.specs.declared.ending.Status.{Status}
 use Rattle.blk_run.specs.Failing.{IsFailedInReading}
-use Rattle.blk_run.specs.Session.{Outside}
+use Rattle.blk_run.specs.Session.{Outside, seen_as}
 use Rattle.blk_run.specs.Shown.{PrintsFault, status_shown}
 use Rattle.blk_run.specs.Texts.{Prints, damage_line}
 use Rattle.blk_run.specs.Work.{Performs, folder_text}
@@ -53,7 +53,7 @@ module _ (text : Image → List ℕ) (limits : Bounds) (device : Type 0) (before
   new = record { folder = final; written = w_new; left = left; clock = clock }
 
   shown_at : (r : Result (Unit {0}) InspectFault) → ForSome start.files (λ image. PrintsAt r (text image) w_old w_mid) → ForSome start.files (AnswersFor r) → UnlessSink r (w_mid ≡ w_old) → IfInspectDamaged r (IsInspectDamage start) → IfInspectDevice r device
-      → IfInspectSink r (Rises before between) → PrintsFault r w_mid w_new between now → Performs (folder_text text) (status_shown r) limits device ⊥ before now old new
+      → IfInspectSink r (Rises before between) → PrintsFault r w_mid w_new between now → Performs (folder_text text) (status_shown r) limits (seen_as old new device ⊥ before now)
   shown_at (Ok done) printed answer unprinted cause_is device_is sink_is behind = record {
     plays = λ from there usable. record { printed = behind ∙ printed from there; unwritten = stays; unread = refl };
     complete = λ from there usable no_device no_source no_sink. behind ∙ printed from there;
@@ -107,12 +107,12 @@ module _ (text : Image → List ℕ) (limits : Bounds) (device : Type 0) (before
 
   -- by the status of what an inspection answered
   pub shown_performs : (r : Result (Unit {0}) InspectFault) (s : Status) → s ≡ status_shown r → ForSome start.files (λ image. PrintsAt r (text image) w_old w_mid) → ForSome start.files (AnswersFor r) → UnlessSink r (w_mid ≡ w_old) → IfInspectDamaged r (IsInspectDamage start)
-      → IfInspectDevice r device → IfInspectSink r (Rises before between) → PrintsFault r w_mid w_new between now → Performs (folder_text text) s limits device ⊥ before now old new
+      → IfInspectDevice r device → IfInspectSink r (Rises before between) → PrintsFault r w_mid w_new between now → Performs (folder_text text) s limits (seen_as old new device ⊥ before now)
   shown_performs r s is printed answer unprinted cause_is device_is sink_is behind =
-      subst (λ (x : Status). Performs (folder_text text) x limits device ⊥ before now old new) (sym is) (shown_at r printed answer unprinted cause_is device_is sink_is behind)
+      subst (λ (x : Status). Performs (folder_text text) x limits (seen_as old new device ⊥ before now)) (sym is) (shown_at r printed answer unprinted cause_is device_is sink_is behind)
 
 -- a call that has no input
-pub text_wider : (text : Image → List ℕ) (result : Status) (limits : Bounds) (device source : Type 0) (before now : ℕ) (old new : Outside) → Performs (folder_text text) result limits device ⊥ before now old new → Performs (folder_text text) result limits device source before now old new
+pub text_wider : (text : Image → List ℕ) (result : Status) (limits : Bounds) (device source : Type 0) (before now : ℕ) (old new : Outside) → Performs (folder_text text) result limits (seen_as old new device ⊥ before now) → Performs (folder_text text) result limits (seen_as old new device source before now)
 text_wider text result limits device source before now old new does = record {
   plays = does.plays;
   complete = λ from there usable no_device no_source no_sink. does.complete from there usable no_device (λ x. x) no_sink;

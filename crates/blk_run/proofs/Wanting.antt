@@ -11,7 +11,7 @@ use Rattle.blk_model.specs.State.{Bounds}
 use Rattle.blk_run.specs.declared.ending.Status.TheVariants as status
 use Rattle.blk_run.specs.Counting.{Counts, IsDoneOrSink}
 use Rattle.blk_run.specs.Inputs.{IsTakenUpTo}
-use Rattle.blk_run.specs.Session.{DoesNothing, LeavesUnput, Outside}
+use Rattle.blk_run.specs.Session.{DoesNothing, LeavesUnput, Outside, seen_as}
 use Rattle.blk_run.specs.Work.{Performs, Work, folder_text, input_by, no_input, whole_input}
 use Rattle.blk_run.proofs.Counted.{told_totals}
 
@@ -23,7 +23,7 @@ unput : (old new : Outside) → DoesNothing old new → LeavesUnput old new
 unput old new nothing = record { unwritten = nothing.unwritten; unprinted = nothing.unprinted }
 
 -- no work is done when out of memory
-pub performs_nothing : (work : Work) (limits : Bounds) (device source : Type 0) (before now : ℕ) (old new : Outside) → ReadsAs old.clock new.clock (λ _ _. Unit {0}) → DoesNothing old new → Performs work status.Memory limits device source before now old new
+pub performs_nothing : (work : Work) (limits : Bounds) (device source : Type 0) (before now : ℕ) (old new : Outside) → ReadsAs old.clock new.clock (λ _ _. Unit {0}) → DoesNothing old new → Performs work status.Memory limits (seen_as old new device source before now)
 performs_nothing (input_by protocol) limits device source before now old new clock nothing = record {
   plays = λ from there usable. reads_map clock (λ readings later none. takes_map (takes_same [] nothing.unread) (λ input rest same. record { unwritten = nothing.unwritten; unread = ap Some same; unprinted = nothing.unprinted }));
   complete = λ from there usable no_device no_source no_sink readings told input left within unbroken. nothing;
@@ -71,8 +71,8 @@ no_end (inr e) = absurd (never e)
     never c = cc
 
 -- nothing is counted either, and the clock is read once
-pub counts_nothing : (limits : Bounds) (before now : ℕ) (old new : Outside) → DoesNothing old new → new.clock ≡ option_map later_of old.clock → Counts status.Memory limits before now old new
-counts_nothing limits before now old new nothing read = record {
+pub counts_nothing : (limits : Bounds) (before now : ℕ) (old new : Outside) → DoesNothing old new → new.clock ≡ option_map later_of old.clock → (device source : Type 0) → Counts status.Memory limits (seen_as old new device source before now)
+counts_nothing limits before now old new nothing read device source = record {
   answer = λ from there. tt;
   printed = told_totals status.Memory limits old.folder.files old.written new.written (λ line. nothing.unprinted);
   damage = λ e. absurd (no_damage e);

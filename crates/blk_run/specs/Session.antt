@@ -6,7 +6,7 @@ use Rattle.std.specs.declared.option.Option.TheVariants.{Some}
 use Rattle.spec_image.specs.Checks.{Damage}
 use Rattle.spec_image.specs.Image.{Image}
 use Rattle.spec_image.specs.Notes.{notes_in}
-use Rattle.spec_image.specs.Told.{Told, Stays}
+use Rattle.spec_image.specs.Told.{Rises, Stays, Told}
 use Rattle.blk_model.specs.Holding.{open_state, rest}
 use Rattle.blk_model.specs.State.{Bounds}
 use Rattle.spec_folder.specs.Found.{found}
@@ -41,6 +41,28 @@ with_readings told readings = record { folder = told.folder; written = told.writ
 -- what is observable outside, with the readings and the bytes that clock and input give from here on
 abbrev pub with_given : Outside → Readings → List ℕ → Outside
 with_given told readings input = record { folder = told.folder; written = told.written; left = Some input; clock = Some readings }
+
+-- what is observable outside, with this rest of the input
+abbrev pub with_left : Outside → Option (List ℕ) → Outside
+with_left told left = record told { left = left }
+
+-- what is seen of a call from outside: what is observable before it and after it; that the error counter of the folder rose (`device`), and that of the input
+-- (`source`); and the error counter of the output before it and after it (`before`, `now`)
+pub record Seen : Type 1 where
+  pub old : Outside
+  pub new : Outside
+  pub device : Type 0
+  pub source : Type 0
+  pub before : ℕ
+  pub now : ℕ
+
+-- what is seen of a call, from its parts
+abbrev pub seen_as : (old new : Outside) → (device source : Type 0) → (before now : ℕ) → Seen
+seen_as old new device source before now = record { old = old; new = new; device = device; source = source; before = before; now = now }
+
+-- what is seen of a call, with the readings and the bytes that clock and input give from its start on and from its end on
+abbrev pub seen_given : Seen → (early late : Readings) → (input rest : List ℕ) → Seen
+seen_given seen early late input rest = seen_as (with_given seen.old early input) (with_given seen.new late rest) seen.device seen.source seen.before seen.now
 
 -- How the iterations ended.
 
@@ -146,12 +168,12 @@ pub record DoesNothing (old new : Outside) : Type 0 where
   pub unprinted : new.written ≡ old.written
 
 -- the contract of a session by its status, for an image that is uninitialized or well formed
-abbrev pub Session : Protocol → Status → Bounds → ℕ → Image → Readings → List ℕ → (source sink : Type 0) → Outside → Outside → Type 0
-Session protocol status.Memory limits budget from readings input source sink old new = DoesNothing old new
-Session protocol status.Words limits budget from readings input source sink old new = ⊥
-Session protocol status.Damaged limits budget from readings input source sink old new = ⊥
-Session protocol status.Device limits budget from readings input source sink old new = Runs protocol status.Device limits budget from readings input source sink old new ⊎ IsUnopened limits from old new
-Session protocol result limits budget from readings input source sink old new = Runs protocol result limits budget from readings input source sink old new
+abbrev pub Session : Protocol → Status → Bounds → (budget : ℕ) → Image → Readings → (input : List ℕ) → Seen → Type 0
+Session protocol status.Memory limits budget from readings input seen = DoesNothing seen.old seen.new
+Session protocol status.Words limits budget from readings input seen = ⊥
+Session protocol status.Damaged limits budget from readings input seen = ⊥
+Session protocol status.Device limits budget from readings input seen = Runs protocol status.Device limits budget from readings input seen.source (Rises seen.before seen.now) seen.old seen.new ⊎ IsUnopened limits from seen.old seen.new
+Session protocol result limits budget from readings input seen = Runs protocol result limits budget from readings input seen.source (Rises seen.before seen.now) seen.old seen.new
 
 -- Completeness.
 
@@ -232,8 +254,8 @@ pub record LeavesUnput (old new : Outside) : Type 0 where
   pub unprinted : new.written ≡ old.written
 
 -- the contract of `put` by its status: the input is read in full before the folder is opened, and then written
-abbrev pub Put : Status → (List ℕ → Script) → Bounds → Image → Readings → (input : List ℕ) → (sink : Type 0) → Outside → Outside → Type 0
-Put status.Source script limits from readings input sink old new = TakesUnput status.Source input old.left new.left × LeavesUnput old new
-Put status.TooLong script limits from readings input sink old new = TakesUnput status.TooLong input old.left new.left × LeavesUnput old new
-Put status.Memory script limits from readings input sink old new = TakesUnput status.Memory input old.left new.left × LeavesUnput old new
-Put result script limits from readings input sink old new = IsReadWhole longest_input input new.left × FixedScript result (script input) limits from readings sink (record old { left = new.left }) new
+abbrev pub Put : Status → (List ℕ → Script) → Bounds → Image → Readings → (input : List ℕ) → Seen → Type 0
+Put status.Source script limits from readings input seen = TakesUnput status.Source input seen.old.left seen.new.left × LeavesUnput seen.old seen.new
+Put status.TooLong script limits from readings input seen = TakesUnput status.TooLong input seen.old.left seen.new.left × LeavesUnput seen.old seen.new
+Put status.Memory script limits from readings input seen = TakesUnput status.Memory input seen.old.left seen.new.left × LeavesUnput seen.old seen.new
+Put result script limits from readings input seen = IsReadWhole longest_input input seen.new.left × FixedScript result (script input) limits from readings (Rises seen.before seen.now) (with_left seen.old seen.new.left) seen.new

@@ -19,7 +19,7 @@ use Rattle.blk_run.specs.declared.ending.Status.{Status}
 use Rattle.blk_run.specs.declared.ending.Status.TheVariants as status
 use Rattle.blk_run.specs.Failing.{IsDamagedRun, IsFailedInReading}
 use Rattle.blk_run.specs.Inputs.{IsReadWhole, IsTakenUpTo}
-use Rattle.blk_run.specs.Session.{DoesNothing, FixedScript, IsComplete, IsCompleteScript, LeavesUnput, OnDamage, Outside, Put, Session, TakesUnput, with_given, with_readings}
+use Rattle.blk_run.specs.Session.{DoesNothing, FixedScript, IsComplete, IsCompleteScript, LeavesUnput, OnDamage, Outside, Put, Seen, Session, TakesUnput, seen_given, with_readings}
 use Rattle.blk_run.specs.Shown.{IsCompleteText, ShowsText}
 use Rattle.blk_run.specs.Statuses.{CauseOf}
 use Rattle.blk_run.specs.WholeInputs.{longest_input}
@@ -51,11 +51,11 @@ work_of (do_generate seed turns) = no_input (gen_script seed turns)
 
 -- the contract of the work by its status, for an image that is uninitialized or well formed, whether clock and input are observable or not: there are readings
 -- and bytes, those that the calls gave, which are the observed ones where there are such. Showing a text needs neither
-abbrev pub DoesWork : Work → Status → Bounds → Image → (source sink : Type 0) → Outside → Outside → Type 0
-DoesWork (input_by protocol) result limits from source sink old new = ReadsAs old.clock new.clock (λ readings later. TakesAs old.left new.left (λ input rest. Session protocol result limits budget from readings input source sink (with_given old readings input) (with_given new later rest)))
-DoesWork (whole_input script) result limits from source sink old new = ReadsAs old.clock new.clock (λ readings later. TakesAs old.left new.left (λ input rest. Put result script limits from readings input sink (with_given old readings input) (with_given new later rest)))
-DoesWork (no_input script) result limits from source sink old new = ReadsAs old.clock new.clock (λ readings later. FixedScript result script limits from readings sink (with_readings old readings) (with_readings new later))
-DoesWork (folder_text text) result limits from source sink old new = ShowsText result (text from) old new
+abbrev pub DoesWork : Work → Status → Bounds → Image → Seen → Type 0
+DoesWork (input_by protocol) result limits from seen = ReadsAs seen.old.clock seen.new.clock (λ readings later. TakesAs seen.old.left seen.new.left (λ input rest. Session protocol result limits budget from readings input (seen_given seen readings later input rest)))
+DoesWork (whole_input script) result limits from seen = ReadsAs seen.old.clock seen.new.clock (λ readings later. TakesAs seen.old.left seen.new.left (λ input rest. Put result script limits from readings input (seen_given seen readings later input rest)))
+DoesWork (no_input script) result limits from seen = ReadsAs seen.old.clock seen.new.clock (λ readings later. FixedScript result script limits from readings (Rises seen.before seen.now) (with_readings seen.old readings) (with_readings seen.new later))
+DoesWork (folder_text text) result limits from seen = ShowsText result (text from) seen.old seen.new
 
 -- where nothing failed, and the input isn't too long and doesn't break off, the whole output was printed, or memory ran out
 abbrev pub CompletesWork : Work → Status → Bounds → Image → Outside → Outside → Type 0
@@ -107,19 +107,19 @@ DoesNoWork (whole_input script) old new = LeavesUnput old new
 DoesNoWork (no_input script) old new = DoesNothing old new
 DoesNoWork (folder_text text) old new = DoesNothing old new
 
--- the contract of the work; `device` and `source` say that the error counter of folder or input rose, `before` and `now` are the error counter of the output
-pub record Performs (work : Work) (result : Status) (limits : Bounds) (device source : Type 0) (before now : ℕ) (old new : Outside) : Type 0 where
+-- the contract of the work, by what is seen of the call
+pub record Performs (work : Work) (result : Status) (limits : Bounds) (seen : Seen) : Type 0 where
   -- on a folder that is uninitialized or well formed the work is the run in the model, whatever clock and input give
-  pub plays : ForSome old.folder.files (λ from. IsUsable from → DoesWork work result limits from source (Rises before now) old new)
+  pub plays : ForSome seen.old.folder.files (λ from. IsUsable from → DoesWork work result limits from seen)
   -- where nothing fails the whole output is printed, unless memory ran out
-  pub complete : ForSome old.folder.files (λ from. IsUsable from → (device → ⊥) → (source → ⊥) → (Rises before now → ⊥) → CompletesWork work result limits from old new)
+  pub complete : ForSome seen.old.folder.files (λ from. IsUsable from → (seen.device → ⊥) → (seen.source → ⊥) → (Rises seen.before seen.now → ⊥) → CompletesWork work result limits from seen.old seen.new)
   -- on an initialized folder of which a check fails this check is printed, and no more is done
-  pub damage : ForSome old.folder.files (λ from. (damage : Damage) → IsDamagedBy damage from → MeetsDamage work result damage before now old new)
+  pub damage : ForSome seen.old.folder.files (λ from. (damage : Damage) → IsDamagedBy damage from → MeetsDamage work result damage seen.before seen.now seen.old seen.new)
   -- the cause of each status, on every folder
-  pub cause : CauseOf result (IsDamagedWork work before now old new) device source (Rises before now) (IsInputTooLong work old.left)
-  pub takes : TakesInput work old.left new.left
+  pub cause : CauseOf result (IsDamagedWork work seen.before seen.now seen.old seen.new) seen.device seen.source (Rises seen.before seen.now) (IsInputTooLong work seen.old.left)
+  pub takes : TakesInput work seen.old.left seen.new.left
   -- out of memory nothing was done, on every folder
-  pub memory : result ≡ status.Memory → DoesNoWork work old new
+  pub memory : result ≡ status.Memory → DoesNoWork work seen.old seen.new
 
 -- the work leaves the input unread
 abbrev pub IsUnread : Work → Type 0

@@ -1,15 +1,14 @@
 // All handles in use are closed.
-ghost use Rattle.std.specs.Prelude.{◌≡◌, ◌≤◌, ◌+◌, ◌*◌, ℕ, OnOk, None, is_some, position, Some};
+ghost use Rattle.std.specs.Prelude.{◌≡◌, ◌≤◌, ◌*◌, OnOk, None, is_some, position, Some};
 ghost use Rattle.std.specs.Option.{ForSome};
 ghost use Rattle.spec_image.specs.Told.{Rises};
 ghost use Rattle.blk_io.specs.Faults.{IfDamaged, IfDevice};
 ghost use Rattle.blk_model.specs.Sizes.{handle_names};
 ghost use Rattle.blk_object.specs.FailedChecks.{IsFailedCheck};
 ghost use Rattle.blk_run.specs.Closings.{ClosesAll};
-ghost use Rattle.blk_run.specs.Playing.{SoFar, StandsAt};
-ghost use Rattle.blk_run.specs.Telling.{ReadsAs};
 ghost use Rattle.blk_disk.specs.Open.{IsOpen};
 ghost use Rattle.blk_cache.specs.CacheKeeping.{KeepsState};
+ghost use Rattle.blk_run.specs.RunClauses.{FromHere};
 
 use blk_cache::Cache;
 use blk_io::{Clock, Fault, Folder};
@@ -21,7 +20,8 @@ pub(crate) fn close_all<F: Folder, C: Clock>(
     clock: &mut C,
 ) -> Result<(), Fault>
     requires is_open { ForSome (F.told folder.old).files (IsOpen cache.old.files) }
-    ensures closed { ReadsAs (C.readings clock.old) (C.readings clock.new) (λ early late. (far : SoFar) (left : ℕ) → StandsAt far (KeepsState cache.old) (cache.old.notes) (left + 2 * handle_names) (F.told folder.old) → ClosesAll result far (KeepsState cache.new) (cache.new.notes) left (F.told folder.new) (Some early) (Some late)) }
+    ensures closed { FromHere (C.readings clock.old) (C.readings clock.new) cache.old (F.told folder.old) (2 * handle_names) (λ far left early late.
+        ClosesAll result far (KeepsState cache.new) (cache.new.notes) left (F.told folder.new) (Some early) (Some late)) }
     ensures free { OnOk result (position is_some (cache.new.handles) ≡ None) }
     ensures is_open { OnOk result (ForSome (F.told folder.new).files (IsOpen cache.new.files)) }
     ensures later { F.faults folder.old ≤ F.faults folder.new }

@@ -1,30 +1,28 @@
 // The totals are counted.
-ghost use Rattle.std.specs.Prelude.{◌≡◌, ◌≢◌, ◌⊎◌, ◌≤◌, ◌*◌, ◌++◌, List, [], ℕ, None, OnOk, Option, Some, false};
+ghost use Rattle.std.specs.Prelude.{◌≡◌, ◌≢◌, ◌⊎◌, ◌≤◌, ◌*◌, ◌++◌, List, ℕ, None, OnOk, Option, Some, false};
 ghost use Rattle.std.specs.Option.{ForSome, option_map};
 ghost use Rattle.spec_image.specs.Image.{Image, Index as index, byte};
-ghost use Rattle.spec_image.specs.Checks.{Damage as check_damage};
-ghost use Rattle.spec_image.specs.Told.{Rises, Stays, Told, PassesAny};
-ghost use Rattle.spec_format.specs.BlockFiles.{IsDamagedBy, IsUsable};
-ghost use Rattle.spec_format.specs.Headers.{IsUnfinished, create_time_of, this_id_of};
+ghost use Rattle.spec_image.specs.Told.{Rises, Stays, Told, PassesAny, Leaves, LeavesWhere};
+ghost use Rattle.spec_format.specs.Headers.{IsUnfinished, create_time_of};
 ghost use Rattle.blk_io.specs.Streams.{Appends, GoesOn, Readings, later_of};
 ghost use Rattle.blk_model.specs.Bounds.{bounds_of};
-ghost use Rattle.blk_model.specs.Holding.{open_state};
 ghost use Rattle.blk_model.specs.Sizes.{handle_names};
-ghost use Rattle.blk_model.specs.State.{Bounds, State};
-ghost use Rattle.spec_folder.specs.Found.{HoldsStill, found};
+ghost use Rattle.blk_model.specs.State.{Bounds};
+ghost use Rattle.spec_folder.specs.Found.{HoldsStill};
 ghost use Rattle.blk_disk.specs.Open.{IsOpen};
 ghost use Rattle.spec_run.specs.Script.{count_script, totals_line};
 ghost use Rattle.blk_cache.specs.BoundNames.{AreAllFree};
 ghost use Rattle.blk_cache.specs.CacheKeeping.{KeepsState};
-ghost use Rattle.blk_cache.specs.Opening.{EndsSession, WasMadeAt};
+ghost use Rattle.blk_cache.specs.Opening.{WasMadeAt};
 ghost use Rattle.blk_cache.specs.Stepping.{IfSink};
 ghost use Rattle.blk_run.specs.Count.{CountAnswersFor, EndsSame, IsMadeAtNext, PrintsCountAt, ShowsTotals};
 ghost use Rattle.blk_run.specs.Errors.{IsOnlySink};
-ghost use Rattle.blk_run.specs.Failing.{IsDamagedRun, IsFailedInOpening};
+ghost use Rattle.blk_run.specs.Failing.{IsFailedInOpening};
 ghost use Rattle.blk_run.specs.Playing.{StandsAt};
-ghost use Rattle.blk_run.specs.Session.{FixedRuns, FixedScript, IsCompleteScript, OnDamage, outside};
-ghost use Rattle.blk_run.specs.Statuses.{CauseOf, IfWhole};
-ghost use Rattle.blk_run.specs.Telling.{ReadsAs};
+ghost use Rattle.blk_run.specs.Session.{FixedRuns, outside, seen_as};
+ghost use Rattle.blk_run.specs.Statuses.{IfWhole};
+ghost use Rattle.blk_run.specs.Counting.{IsDoneOrSink};
+ghost use Rattle.blk_run.specs.RunClauses.{CauseOfRun, CompletesScript, EndsKept, HasSessionOf, HoldsKept, PlaysScript, ShowsUnread, opened_from, outside_unread};
 
 use crate::ending::Status;
 use crate::printing::{print_damage, print_totals};
@@ -43,16 +41,28 @@ pub(crate) fn run_count<F: Folder, K: Sink, C: Clock>(
 ) -> Status
     // On a folder that is uninitialized or well formed it is the run of the script of `count` on the map model, whatever the
     // clock gives.
-    ensures script { ForSome (F.told folder.old).files (λ from. IsUsable from → ReadsAs (C.readings clock.old) (C.readings clock.new) (λ readings late. (left : Option (List ℕ)) → FixedScript result count_script (bounds_of limits) from readings (Rises (K.faults out.old) (K.faults out.new)) (outside (F.told folder.old) (K.written out.old) left (Some readings)) (outside (F.told folder.new) (K.written out.new) left (Some late)))) }
+    ensures script { PlaysScript result count_script limits (seen_as
+        (outside_unread (F.told folder.old) (K.written out.old) (C.readings clock.old))
+        (outside_unread (F.told folder.new) (K.written out.new) (C.readings clock.new))
+        (Rises (F.faults folder.old) (F.faults folder.new)) ⊥ (K.faults out.old) (K.faults out.new)) }
 
     // Where nothing fails the whole output is printed, unless it is out of memory.
-    ensures complete { ForSome (F.told folder.old).files (λ from. IsUsable from → ForSome (C.readings clock.old) (λ readings. (left : Option (List ℕ)) → (Rises (F.faults folder.old) (F.faults folder.new) → ⊥) → (Rises (K.faults out.old) (K.faults out.new) → ⊥) → IsCompleteScript result count_script (bounds_of limits) from readings (outside (F.told folder.old) (K.written out.old) left (C.readings clock.old)) (outside (F.told folder.new) (K.written out.new) left (C.readings clock.new)))) }
+    ensures complete { CompletesScript result count_script limits (seen_as
+        (outside_unread (F.told folder.old) (K.written out.old) (C.readings clock.old))
+        (outside_unread (F.told folder.new) (K.written out.new) (C.readings clock.new))
+        (Rises (F.faults folder.old) (F.faults folder.new)) ⊥ (K.faults out.old) (K.faults out.new)) }
 
     // On an initialized folder of which a check fails that is printed, and no more is done.
-    ensures shows { ForSome (F.told folder.old).files (λ from. (damage : check_damage) → IsDamagedBy damage from → (left : Option (List ℕ)) → OnDamage result damage (K.faults out.old) (K.faults out.new) (outside (F.told folder.old) (K.written out.old) left (C.readings clock.old)) (outside (F.told folder.new) (K.written out.new) left (C.readings clock.new))) }
+    ensures shows { ShowsUnread result (seen_as
+        (outside_unread (F.told folder.old) (K.written out.old) (C.readings clock.old))
+        (outside_unread (F.told folder.new) (K.written out.new) (C.readings clock.new))
+        (Rises (F.faults folder.old) (F.faults folder.new)) ⊥ (K.faults out.old) (K.faults out.new)) }
 
     // The cause of each status, on every folder.
-    ensures cause { CauseOf result (IsDamagedRun (F.told folder.old) (F.told folder.new) (K.written out.old) (K.written out.new) (K.faults out.old) (K.faults out.new)) (Rises (F.faults folder.old) (F.faults folder.new)) ⊥ (Rises (K.faults out.old) (K.faults out.new)) ⊥ }
+    ensures cause { CauseOfRun result ⊥ (seen_as
+        (outside_unread (F.told folder.old) (K.written out.old) (C.readings clock.old))
+        (outside_unread (F.told folder.new) (K.written out.new) (C.readings clock.new))
+        (Rises (F.faults folder.old) (F.faults folder.new)) ⊥ (K.faults out.old) (K.faults out.new)) }
     ensures later { (F.faults folder.old ≤ F.faults folder.new) × GoesOn K.is K.faults out.old out.new }
     ensures handed { IfWhole result (K.waiting out.old ≡ false → K.waiting out.new ≡ false) }
 
@@ -64,13 +74,14 @@ pub(crate) fn run_count<F: Folder, K: Sink, C: Clock>(
 
     // What is printed of what the folder holds, and of a failed check.
     ensures printed { ShowsTotals result (bounds_of limits) (F.told folder.old).files (K.written out.old) (K.written out.new) }
-    ensures damage { result ≡ Status.Damaged → IsFailedInOpening (F.told folder.old) (F.told folder.new) (K.written out.old) (K.written out.new) (K.faults out.old) (K.faults out.new) }
+    ensures damage { result ≡ Status.Damaged → IsFailedInOpening (F.told folder.old) (F.told folder.new)
+        (K.written out.old) (K.written out.new) (K.faults out.old) (K.faults out.new) }
 
     // In the end recovery gives the same, and the folder is consistent.
-    ensures ended { (result ≡ Status.Ok) ⊎ (result ≡ Status.Sink) → ForSome (F.told folder.old).files (λ start. ForSome (F.told folder.new).files (EndsSame start)) }
+    ensures ended { IsDoneOrSink result → Leaves (F.told folder.old) (F.told folder.new) EndsSame }
 
     // An uninitialized folder is made at the next reading of the clock, and keeps that moment.
-    ensures made { (result ≡ Status.Ok) ⊎ (result ≡ Status.Sink) → ForSome (F.told folder.old).files (λ start. IsUnfinished start → ForSome (F.told folder.new).files (IsMadeAtNext (C.readings clock.old))) }
+    ensures made { IsDoneOrSink result → LeavesWhere (F.told folder.old) (F.told folder.new) IsUnfinished (λ _. IsMadeAtNext (C.readings clock.old)) }
 
     // At each word recovery gives the same, and the folder is uninitialized or well formed where it was.
     ensures stops { ForSome (F.told folder.old).files (λ start. PassesAny (F.told folder.old) (F.told folder.new) (HoldsStill start)) }
@@ -100,13 +111,17 @@ pub(crate) fn run_count<F: Folder, K: Sink, C: Clock>(
 fn count<F: Folder, K: Sink>(cache: Cache, folder: &mut F, out: &mut K) -> Status
     requires free { AreAllFree cache.handles }
     requires is_open { ForSome (F.told folder.old).files (IsOpen cache.files) }
-    ensures runs { (from : Image) (limits : Bounds) (readings : Readings) (left : Option (List ℕ)) (start : Told) (first next : Option Readings) → start.files ≡ Some from → first ≡ Some readings → next ≡ option_map later_of first → StandsAt (record { start = start; from = from; opened = open_state (found from) limits; done = [] }) (KeepsState cache) cache.notes (2 * handle_names) (F.told folder.old) → FixedRuns result count_script limits from readings (Rises (K.faults out.old) (K.faults out.new)) (outside start (K.written out.old) left first) (outside (F.told folder.new) (K.written out.new) left next) }
+    ensures runs { (from : Image) (limits : Bounds) (readings : Readings) (left : Option (List ℕ)) (start : Told) (first next : Option Readings)
+        → start.files ≡ Some from → first ≡ Some readings → next ≡ option_map later_of first
+        → StandsAt (opened_from start from limits) (KeepsState cache) cache.notes (2 * handle_names) (F.told folder.old)
+        → FixedRuns result count_script limits from readings (Rises (K.faults out.old) (K.faults out.new))
+        (outside start (K.written out.old) left first) (outside (F.told folder.new) (K.written out.new) left next) }
     ensures answers { (result ≡ Status.Ok) ⊎ ((result ≡ Status.Sink) ⊎ (result ≡ Status.Device)) }
     ensures printed { PrintsCountAt result (totals_line cache.items cache.bytes) (K.written out.old) (K.written out.new) }
-    ensures ended { (result ≡ Status.Ok) ⊎ (result ≡ Status.Sink) → ForSome (F.told folder.old).files (λ from. (state : State) → KeepsState cache state from → ForSome (F.told folder.new).files EndsSession) }
-    ensures session { (result ≡ Status.Ok) ⊎ (result ≡ Status.Sink) → ForSome (F.told folder.old).files (λ from. ForSome (F.told folder.new).files (λ image. this_id_of (byte image index) ≡ this_id_of (byte from index))) }
-    ensures made { (result ≡ Status.Ok) ⊎ (result ≡ Status.Sink) → ForSome (F.told folder.old).files (λ from. ForSome (F.told folder.new).files (WasMadeAt (create_time_of (byte from index)))) }
-    ensures stops { ForSome (F.told folder.old).files (λ from. (state : State) → KeepsState cache state from → PassesAny (F.told folder.old) (F.told folder.new) (HoldsStill from)) }
+    ensures ended { IsDoneOrSink result → EndsKept cache (F.told folder.old) (F.told folder.new) }
+    ensures session { IsDoneOrSink result → Leaves (F.told folder.old) (F.told folder.new) HasSessionOf }
+    ensures made { IsDoneOrSink result → Leaves (F.told folder.old) (F.told folder.new) (λ from. WasMadeAt (create_time_of (byte from index))) }
+    ensures stops { HoldsKept cache (F.told folder.old) (F.told folder.new) }
     ensures silent { (F.told folder.old).files ≡ None → (F.told folder.new).files ≡ None }
     ensures later { F.faults folder.old ≤ F.faults folder.new }
     ensures sink_later { GoesOn K.is K.faults out.old out.new }

@@ -1,5 +1,5 @@
 // The fixed scripts: commands that are played up to the first that is refused.
-ghost use Rattle.std.specs.Prelude.{◌≡◌, ◌*◌, true, ◌≤◌, ◌+◌, ◌++◌, ℕ, length, map, OnOk, false, Some};
+ghost use Rattle.std.specs.Prelude.{◌≡◌, ◌*◌, true, ◌≤◌, ◌+◌, ◌++◌, length, map, OnOk, false, Some};
 ghost use Rattle.std.specs.Option.{ForSome, option_map};
 ghost use Rattle.spec_image.specs.Told.{Rises};
 ghost use Rattle.blk_io.specs.Streams.{Appends, GoesOn};
@@ -12,10 +12,10 @@ ghost use Rattle.blk_run.specs.Fixed.{opened_answer};
 ghost use Rattle.blk_object.specs.FailedChecks.{IsFailedCheck};
 ghost use Rattle.blk_cache.specs.Stepping.{IfDone, IfSink, IfStepDamaged, IfStepDevice};
 ghost use Rattle.blk_run.specs.Errors.{IsOnlySink};
-ghost use Rattle.blk_run.specs.Playing.{PlaysPart, SoFar, StandsAt, around};
-ghost use Rattle.blk_run.specs.Telling.{ReadsAs};
+ghost use Rattle.blk_run.specs.Playing.{PlaysPart, around};
 ghost use Rattle.blk_disk.specs.Open.{IsOpen};
 ghost use Rattle.blk_cache.specs.CacheKeeping.{KeepsState};
+ghost use Rattle.blk_run.specs.RunClauses.{FromHere};
 
 use crate::playing::{ask, is_refusal};
 use crate::unshown::ask_unshown;
@@ -34,7 +34,9 @@ pub(crate) fn play_until_refused<F: Folder, K: Sink, C: Clock>(
     clock: &mut C,
 ) -> Result<(), StepFault>
     requires is_open { ForSome (F.told folder.old).files (IsOpen cache.old.files) }
-    ensures played { ReadsAs (C.readings clock.old) (C.readings clock.new) (λ early late. (far : SoFar) (left : ℕ) → StandsAt far (KeepsState cache.old) (cache.old.notes) (left + 2 * length commands.now) (F.told folder.old) → PlaysPart result (turns (until_refused (map request_of commands.now))) far (KeepsState cache.new) (cache.new.notes) left (around (F.told folder.old) (K.written out.old) (Some early) refused.old) (around (F.told folder.new) (K.written out.new) (Some late) refused.new)) }
+    ensures played { FromHere (C.readings clock.old) (C.readings clock.new) cache.old (F.told folder.old) (2 * length commands.now) (λ far left early late.
+        PlaysPart result (turns (until_refused (map request_of commands.now))) far (KeepsState cache.new) (cache.new.notes) left
+        (around (F.told folder.old) (K.written out.old) (Some early) refused.old) (around (F.told folder.new) (K.written out.new) (Some late) refused.new)) }
     ensures is_open { IfDone result (ForSome (F.told folder.new).files (IsOpen cache.new.files)) }
     ensures later { F.faults folder.old ≤ F.faults folder.new }
     ensures printed_later { GoesOn K.is K.faults out.old out.new }
@@ -64,7 +66,9 @@ pub(crate) fn play_put<F: Folder, K: Sink, C: Clock>(
     clock: &mut C,
 ) -> Result<(), StepFault>
     requires is_open { ForSome (F.told folder.old).files (IsOpen cache.old.files) }
-    ensures played { ReadsAs (C.readings clock.old) (C.readings clock.new) (λ early late. (far : SoFar) (left : ℕ) → StandsAt far (KeepsState cache.old) (cache.old.notes) (left + 8) (F.told folder.old) → PlaysPart result (turns (put_script put.entry.key.now put.entry.stream put.entry.bytes.now)) far (KeepsState cache.new) (cache.new.notes) left (around (F.told folder.old) (K.written out.old) (Some early) refused.old) (around (F.told folder.new) (K.written out.new) (Some late) refused.new)) }
+    ensures played { FromHere (C.readings clock.old) (C.readings clock.new) cache.old (F.told folder.old) 8 (λ far left early late.
+        PlaysPart result (turns (put_script put.entry.key.now put.entry.stream put.entry.bytes.now)) far (KeepsState cache.new) (cache.new.notes) left
+        (around (F.told folder.old) (K.written out.old) (Some early) refused.old) (around (F.told folder.new) (K.written out.new) (Some late) refused.new)) }
     ensures is_open { IfDone result (ForSome (F.told folder.new).files (IsOpen cache.new.files)) }
     ensures later { F.faults folder.old ≤ F.faults folder.new }
     ensures printed_later { GoesOn K.is K.faults out.old out.new }

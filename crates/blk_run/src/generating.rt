@@ -1,22 +1,21 @@
 // The iterations of a generator are played.
-ghost use Rattle.std.specs.Prelude.{◌≡◌, ◌≤◌, ◌<◌, ◌+◌, ◌*◌, ◌^◌, ◌++◌, Bool, List, Option, ℕ, length, OnOk, false, Some};
+ghost use Rattle.std.specs.Prelude.{◌≡◌, ◌≤◌, ◌<◌, ◌+◌, ◌*◌, ◌++◌, Bool, ℕ, length, OnOk, false, Some};
 ghost use Rattle.std.specs.Option.{ForSome, option_map};
 ghost use Rattle.spec_image.specs.Told.{Rises};
 ghost use Rattle.blk_io.specs.Streams.{Appends, GoesOn};
 ghost use Rattle.blk_model.specs.Request.{request_of};
 ghost use Rattle.spec_run.specs.Run.{turns};
-ghost use Rattle.spec_run.specs.Script.{totals_line};
-ghost use Rattle.blk_gen.specs.Counting.{counts_line};
 ghost use Rattle.blk_gen.specs.Draws.{generated_bytes};
 ghost use Rattle.blk_gen.specs.Generator.{created_turn, gen_script, turn_script, used_turn};
 ghost use Rattle.blk_object.specs.FailedChecks.{IsFailedCheck};
 ghost use Rattle.blk_cache.specs.Stepping.{IfDone, IfSink, IfStepDamaged, IfStepDevice};
 ghost use Rattle.blk_run.specs.Errors.{IsOnlySink};
-ghost use Rattle.blk_run.specs.Generating.{AreWithin, AsksCounted, Following, IsGeneratedRequest, PlaysCounted, evicted_by, unshown};
+ghost use Rattle.blk_run.specs.Generating.{AsksCounted, IsGeneratedRequest, evicted_by, unshown};
 ghost use Rattle.blk_run.specs.Playing.{PlaysPart, SoFar, StandsAt, around};
 ghost use Rattle.blk_run.specs.Telling.{ReadsAs};
 ghost use Rattle.blk_disk.specs.Open.{IsOpen};
 ghost use Rattle.blk_cache.specs.CacheKeeping.{KeepsState};
+ghost use Rattle.blk_run.specs.RunClauses.{FromHere, PlaysIteration, counted_text, iterating};
 
 use crate::counting::show_totals;
 use crate::fixed::is_missing;
@@ -43,7 +42,10 @@ pub(crate) fn play_generated<F: Folder, K: Sink, C: Clock>(
     clock: &mut C,
 ) -> Result<(), StepFault>
     requires is_open { ForSome (F.told folder.old).files (IsOpen cache.old.files) }
-    ensures played { ReadsAs (C.readings clock.old) (C.readings clock.new) (λ early late. (refused : Bool) (far : SoFar) (left : ℕ) → StandsAt far (KeepsState cache.old) (cache.old.notes) (left + 2 * (5 * count)) (F.told folder.old) → PlaysPart result (turns (gen_script seed count)) far (KeepsState cache.new) (cache.new.notes) left (around (F.told folder.old) (K.written out.old) (Some early) refused) (around (F.told folder.new) (K.written out.new) (Some late) refused)) }
+    ensures played { ReadsAs (C.readings clock.old) (C.readings clock.new) (λ early late. (refused : Bool) (far : SoFar) (left : ℕ)
+        → StandsAt far (KeepsState cache.old) (cache.old.notes) (left + 2 * (5 * count)) (F.told folder.old)
+        → PlaysPart result (turns (gen_script seed count)) far (KeepsState cache.new) (cache.new.notes) left
+        (around (F.told folder.old) (K.written out.old) (Some early) refused) (around (F.told folder.new) (K.written out.new) (Some late) refused)) }
     ensures is_open { IfDone result (ForSome (F.told folder.new).files (IsOpen cache.new.files)) }
     ensures later { F.faults folder.old ≤ F.faults folder.new }
     ensures printed_later { GoesOn K.is K.faults out.old out.new }
@@ -83,7 +85,9 @@ fn play_turn<F: Folder, C: Clock>(
     requires is_open { ForSome (F.told folder.old).files (IsOpen cache.old.files) }
     requires key { turn.now.key_number < 1000 }
     requires buffer { turn.now.byte_count ≤ length buffer.old }
-    ensures played { ReadsAs (C.readings clock.old) (C.readings clock.new) (λ early late. (far : SoFar) (left commands : ℕ) (following : Following) (written : Option (List ℕ)) (refused : Bool) → commands + 5 < 2 ^ 36 → AreWithin commands counts.old → StandsAt far (KeepsState cache.old) (cache.old.notes) (left + 10) (F.told folder.old) → PlaysCounted result (commands + 5) counts.new (turn_script number turn.now counts.old following) (following counts.new) far (KeepsState cache.new) (cache.new.notes) left (unshown (F.told folder.old) written (Some early) refused) (unshown (F.told folder.new) written (Some late) refused)) }
+    ensures played { PlaysIteration result 5 10 (turn_script number turn.now counts.old)
+        (iterating cache.old counts.old (F.told folder.old) (C.readings clock.old))
+        (iterating cache.new counts.new (F.told folder.new) (C.readings clock.new)) }
     ensures is_open { IfDone result (ForSome (F.told folder.new).files (IsOpen cache.new.files)) }
     ensures later { F.faults folder.old ≤ F.faults folder.new }
     ensures damaged { IfStepDamaged result (IsFailedCheck cache.new.files (F.told folder.new)) }
@@ -116,7 +120,9 @@ fn play_missing<F: Folder, C: Clock>(
     requires is_open { ForSome (F.told folder.old).files (IsOpen cache.old.files) }
     requires key { turn.now.key_number < 1000 }
     requires buffer { turn.now.byte_count ≤ length buffer.old }
-    ensures played { ReadsAs (C.readings clock.old) (C.readings clock.new) (λ early late. (far : SoFar) (left commands : ℕ) (following : Following) (written : Option (List ℕ)) (refused : Bool) → commands + 4 < 2 ^ 36 → AreWithin commands counts.old → StandsAt far (KeepsState cache.old) (cache.old.notes) (left + 8) (F.told folder.old) → PlaysCounted result (commands + 4) counts.new (created_turn number turn.now counts.old following) (following counts.new) far (KeepsState cache.new) (cache.new.notes) left (unshown (F.told folder.old) written (Some early) refused) (unshown (F.told folder.new) written (Some late) refused)) }
+    ensures played { PlaysIteration result 4 8 (created_turn number turn.now counts.old)
+        (iterating cache.old counts.old (F.told folder.old) (C.readings clock.old))
+        (iterating cache.new counts.new (F.told folder.new) (C.readings clock.new)) }
     ensures is_open { IfDone result (ForSome (F.told folder.new).files (IsOpen cache.new.files)) }
     ensures later { F.faults folder.old ≤ F.faults folder.new }
     ensures damaged { IfStepDamaged result (IsFailedCheck cache.new.files (F.told folder.new)) }
@@ -145,7 +151,9 @@ fn play_used<F: Folder, C: Clock>(
 ) -> Result<(), StepFault>
     requires is_open { ForSome (F.told folder.old).files (IsOpen cache.old.files) }
     requires buffer { turn.now.byte_count ≤ length buffer.old }
-    ensures played { ReadsAs (C.readings clock.old) (C.readings clock.new) (λ early late. (far : SoFar) (left commands : ℕ) (following : Following) (written : Option (List ℕ)) (refused : Bool) → commands + 3 < 2 ^ 36 → AreWithin commands counts.old → StandsAt far (KeepsState cache.old) (cache.old.notes) (left + 6) (F.told folder.old) → PlaysCounted result (commands + 3) counts.new (used_turn number turn.now counts.old following) (following counts.new) far (KeepsState cache.new) (cache.new.notes) left (unshown (F.told folder.old) written (Some early) refused) (unshown (F.told folder.new) written (Some late) refused)) }
+    ensures played { PlaysIteration result 3 6 (used_turn number turn.now counts.old)
+        (iterating cache.old counts.old (F.told folder.old) (C.readings clock.old))
+        (iterating cache.new counts.new (F.told folder.new) (C.readings clock.new)) }
     ensures is_open { IfDone result (ForSome (F.told folder.new).files (IsOpen cache.new.files)) }
     ensures later { F.faults folder.old ≤ F.faults folder.new }
     ensures damaged { IfStepDamaged result (IsFailedCheck cache.new.files (F.told folder.new)) }
@@ -191,7 +199,9 @@ fn ask_counted<F: Folder, C: Clock>(
 ) -> Result<Answer, StepFault>
     requires is_open { ForSome (F.told folder.old).files (IsOpen cache.old.files) }
     requires asked { IsGeneratedRequest (request_of command.now) }
-    ensures asked { ReadsAs (C.readings clock.old) (C.readings clock.new) (λ early late. (far : SoFar) (left : ℕ) → StandsAt far (KeepsState cache.old) (cache.old.notes) (left + 2) (F.told folder.old) → AsksCounted result (request_of command.now) counts.old counts.new far (KeepsState cache.new) (cache.new.notes) left (F.told folder.old) (F.told folder.new) (Some early) (Some late)) }
+    ensures asked { FromHere (C.readings clock.old) (C.readings clock.new) cache.old (F.told folder.old) 2 (λ far left early late.
+        AsksCounted result (request_of command.now) counts.old counts.new far (KeepsState cache.new) (cache.new.notes) left
+        (F.told folder.old) (F.told folder.new) (Some early) (Some late)) }
     ensures is_open { IfDone result (ForSome (F.told folder.new).files (IsOpen cache.new.files)) }
     ensures later { F.faults folder.old ≤ F.faults folder.new }
     ensures damaged { IfStepDamaged result (IsFailedCheck cache.new.files (F.told folder.new)) }
@@ -232,8 +242,8 @@ fn evicted_by(command: &Command, answer: &Answer, before: u64, after: u64) -> u6
 
 // Prints what was counted, and the totals of a cache.
 fn show_counts<K: Sink>(cache: &Cache, counts: &Counts, out: &mut K) -> Result<(), StepFault>
-    ensures printed { OnOk result (K.written out.new ≡ option_map (λ w. w ++ (counts_line counts.now ++ totals_line cache.now.items cache.now.bytes)) (K.written out.old)) }
-    ensures front { Appends (K.written out.old) (K.written out.new) (counts_line counts.now ++ totals_line cache.now.items cache.now.bytes) }
+    ensures printed { OnOk result (K.written out.new ≡ option_map (λ w. w ++ counted_text counts.now cache.now) (K.written out.old)) }
+    ensures front { Appends (K.written out.old) (K.written out.new) (counted_text counts.now cache.now) }
     ensures only { IsOnlySink result }
     ensures later { GoesOn K.is K.faults out.old out.new }
     ensures handed { OnOk result (K.waiting out.new ≡ false) }

@@ -70,7 +70,12 @@ pub(crate) fn play_input<F: Folder, S: Source, K: Sink, C: Clock>(
     requires buffer { 2200000 ≤ length buffer.old }
     requires first { played.old.lines + pending line.old ≡ 0 }
     requires nothing { HoldsLine line.old [] }
-    ensures played { ReadsAs (C.readings clock.old) (C.readings clock.new) (λ early late. TakesAs (S.left input.old) (S.left input.new) (λ bytes rest. IsTakenUpTo (budget + 1) (Some rest) bytes × ((far : SoFar) (spare : ℕ) → StandsAt far (KeepsState cache.old) (cache.old.notes) (spare + (budget + 1)) (F.told folder.old) → PlaysInput result budget (Some bytes) (Some rest) far (KeepsState cache.new) (cache.new.notes) spare (around (F.told folder.old) (K.written out.old) (Some early) played.old.refused) (around (F.told folder.new) (K.written out.new) (Some late) played.new.refused)))) }
+    ensures played { ReadsAs (C.readings clock.old) (C.readings clock.new) (λ early late. TakesAs (S.left input.old) (S.left input.new) (λ bytes rest.
+        IsTakenUpTo (budget + 1) (Some rest) bytes × ((far : SoFar) (spare : ℕ)
+        → StandsAt far (KeepsState cache.old) (cache.old.notes) (spare + (budget + 1)) (F.told folder.old)
+        → PlaysInput result budget (Some bytes) (Some rest) far (KeepsState cache.new) (cache.new.notes) spare
+        (around (F.told folder.old) (K.written out.old) (Some early) played.old.refused)
+        (around (F.told folder.new) (K.written out.new) (Some late) played.new.refused)))) }
     ensures taken { ForSome (S.left input.old) (IsTakenUpTo (budget + 1) (S.left input.new)) }
     ensures is_open { IfDone result (ForSome (F.told folder.new).files (IsOpen cache.new.files)) }
     ensures later { F.faults folder.old ≤ F.faults folder.new }

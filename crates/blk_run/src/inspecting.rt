@@ -7,7 +7,7 @@ ghost use Rattle.blk_inspect.specs.Texts.{inspect_text, verify_text};
 ghost use Rattle.blk_run.specs.Shown.{PrintsFault, status_shown};
 ghost use Rattle.blk_run.specs.Errors.{IsFlushed};
 ghost use Rattle.blk_run.specs.Work.{Performs, folder_text};
-ghost use Rattle.blk_run.specs.Session.{outside};
+ghost use Rattle.blk_run.specs.Session.{outside, seen_as};
 ghost use Rattle.blk_run.specs.Statuses.{IfWhole};
 
 use crate::ending::Status;
@@ -23,7 +23,11 @@ pub(crate) fn show_part<F: Folder, K: Sink>(
     out: &mut K,
     folder: &mut F,
 ) -> Status
-    ensures performs { (limits : Bounds) (left : Option (List ℕ)) (clock : Option Readings) → Performs (folder_text (inspect_text part.now)) result limits (Rises (F.faults folder.old) (F.faults folder.new)) ⊥ (K.faults out.old) (K.faults out.new) (outside (F.told folder.old) (K.written out.old) left clock) (outside (F.told folder.new) (K.written out.new) left clock) }
+    ensures performs { (limits : Bounds) (left : Option (List ℕ)) (clock : Option Readings)
+        → Performs (folder_text (inspect_text part.now)) result limits (seen_as
+        (outside (F.told folder.old) (K.written out.old) left clock)
+        (outside (F.told folder.new) (K.written out.new) left clock)
+        (Rises (F.faults folder.old) (F.faults folder.new)) ⊥ (K.faults out.old) (K.faults out.new)) }
     ensures stays { Stays (F.told folder.old) (F.told folder.new) }
     ensures later { (F.faults folder.old ≤ F.faults folder.new) × GoesOn K.is K.faults out.old out.new }
     ensures handed { IfWhole result (K.waiting out.old ≡ false → K.waiting out.new ≡ false) }
@@ -34,7 +38,11 @@ pub(crate) fn show_part<F: Folder, K: Sink>(
 
 // Prints what the folder holds, and what is dropped of it.
 pub(crate) fn show_verdict<F: Folder, K: Sink>(alloc: Global, out: &mut K, folder: &mut F) -> Status
-    ensures performs { (limits : Bounds) (left : Option (List ℕ)) (clock : Option Readings) → Performs (folder_text verify_text) result limits (Rises (F.faults folder.old) (F.faults folder.new)) ⊥ (K.faults out.old) (K.faults out.new) (outside (F.told folder.old) (K.written out.old) left clock) (outside (F.told folder.new) (K.written out.new) left clock) }
+    ensures performs { (limits : Bounds) (left : Option (List ℕ)) (clock : Option Readings)
+        → Performs (folder_text verify_text) result limits (seen_as
+        (outside (F.told folder.old) (K.written out.old) left clock)
+        (outside (F.told folder.new) (K.written out.new) left clock)
+        (Rises (F.faults folder.old) (F.faults folder.new)) ⊥ (K.faults out.old) (K.faults out.new)) }
     ensures stays { Stays (F.told folder.old) (F.told folder.new) }
     ensures later { (F.faults folder.old ≤ F.faults folder.new) × GoesOn K.is K.faults out.old out.new }
     ensures handed { IfWhole result (K.waiting out.old ≡ false → K.waiting out.new ≡ false) }

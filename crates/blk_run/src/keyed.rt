@@ -7,7 +7,7 @@ ghost use Rattle.blk_model.specs.Bounds.{bounds_of};
 ghost use Rattle.blk_script.specs.Fields.{key_field};
 ghost use Rattle.spec_run.specs.Script.{doom_script, get_script, put_script};
 ghost use Rattle.blk_run.specs.Work.{Performs, no_input, whole_input};
-ghost use Rattle.blk_run.specs.Session.{outside};
+ghost use Rattle.blk_run.specs.Session.{outside, seen_as};
 ghost use Rattle.blk_run.specs.Statuses.{IfWhole};
 
 use crate::ending::Status;
@@ -30,7 +30,10 @@ pub(crate) fn get<F: Folder, K: Sink, C: Clock>(
     clock: &mut C,
 ) -> Status
     requires spelled { key_field key.now ≡ Ok (percent_decode key.now) }
-    ensures performs { (left : Option (List ℕ)) → Performs (no_input (get_script (percent_decode key.now) stream)) result (bounds_of limits) (Rises (F.faults folder.old) (F.faults folder.new)) ⊥ (K.faults out.old) (K.faults out.new) (outside (F.told folder.old) (K.written out.old) left (C.readings clock.old)) (outside (F.told folder.new) (K.written out.new) left (C.readings clock.new)) }
+    ensures performs { (left : Option (List ℕ)) → Performs (no_input (get_script (percent_decode key.now) stream)) result (bounds_of limits) (seen_as
+        (outside (F.told folder.old) (K.written out.old) left (C.readings clock.old))
+        (outside (F.told folder.new) (K.written out.new) left (C.readings clock.new))
+        (Rises (F.faults folder.old) (F.faults folder.new)) ⊥ (K.faults out.old) (K.faults out.new)) }
     ensures later { (F.faults folder.old ≤ F.faults folder.new) × GoesOn K.is K.faults out.old out.new }
     ensures handed { IfWhole result (K.waiting out.old ≡ false → K.waiting out.new ≡ false) }
 {
@@ -62,7 +65,10 @@ pub(crate) fn doom<F: Folder, K: Sink, C: Clock>(
     clock: &mut C,
 ) -> Status
     requires spelled { key_field key.now ≡ Ok (percent_decode key.now) }
-    ensures performs { (left : Option (List ℕ)) → Performs (no_input (doom_script (percent_decode key.now))) result (bounds_of limits) (Rises (F.faults folder.old) (F.faults folder.new)) ⊥ (K.faults out.old) (K.faults out.new) (outside (F.told folder.old) (K.written out.old) left (C.readings clock.old)) (outside (F.told folder.new) (K.written out.new) left (C.readings clock.new)) }
+    ensures performs { (left : Option (List ℕ)) → Performs (no_input (doom_script (percent_decode key.now))) result (bounds_of limits) (seen_as
+        (outside (F.told folder.old) (K.written out.old) left (C.readings clock.old))
+        (outside (F.told folder.new) (K.written out.new) left (C.readings clock.new))
+        (Rises (F.faults folder.old) (F.faults folder.new)) ⊥ (K.faults out.old) (K.faults out.new)) }
     ensures later { (F.faults folder.old ≤ F.faults folder.new) × GoesOn K.is K.faults out.old out.new }
     ensures handed { IfWhole result (K.waiting out.old ≡ false → K.waiting out.new ≡ false) }
 {
@@ -89,7 +95,10 @@ pub(crate) fn put<F: Folder, S: Source, K: Sink, C: Clock>(
     clock: &mut C,
 ) -> Status
     requires spelled { key_field key.now ≡ Ok (percent_decode key.now) }
-    ensures performs { Performs (whole_input (put_script (percent_decode key.now) stream)) result (bounds_of limits) (Rises (F.faults folder.old) (F.faults folder.new)) (Rises (S.faults input.old) (S.faults input.new)) (K.faults out.old) (K.faults out.new) (outside (F.told folder.old) (K.written out.old) (S.left input.old) (C.readings clock.old)) (outside (F.told folder.new) (K.written out.new) (S.left input.new) (C.readings clock.new)) }
+    ensures performs { Performs (whole_input (put_script (percent_decode key.now) stream)) result (bounds_of limits) (seen_as
+        (outside (F.told folder.old) (K.written out.old) (S.left input.old) (C.readings clock.old))
+        (outside (F.told folder.new) (K.written out.new) (S.left input.new) (C.readings clock.new))
+        (Rises (F.faults folder.old) (F.faults folder.new)) (Rises (S.faults input.old) (S.faults input.new)) (K.faults out.old) (K.faults out.new)) }
     ensures later { (F.faults folder.old ≤ F.faults folder.new) × ((S.faults input.old ≤ S.faults input.new) × GoesOn K.is K.faults out.old out.new) }
     ensures handed { IfWhole result (K.waiting out.old ≡ false → K.waiting out.new ≡ false) }
 {

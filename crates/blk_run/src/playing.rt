@@ -17,6 +17,7 @@ ghost use Rattle.blk_run.specs.Playing.{Asks, SoFar, StandsAt, PlaysPart, has_re
 ghost use Rattle.blk_run.specs.Telling.{ReadsAs};
 ghost use Rattle.blk_disk.specs.Open.{IsOpen};
 ghost use Rattle.blk_cache.specs.CacheKeeping.{KeepsState};
+ghost use Rattle.blk_run.specs.RunClauses.{CountsWhole, FromHere};
 
 use crate::line::Line;
 use blk_cache::{Cache, StepFault};
@@ -65,7 +66,13 @@ pub(crate) fn play_line<F: Folder, K: Sink, C: Clock>(
     requires is_open { ForSome (F.told folder.old).files (IsOpen cache.old.files) }
     requires buffer { 2200000 ≤ length buffer.old }
     requires few { played.old.lines < 2 ^ 64 - 1 }
-    ensures played { ReadsAs (C.readings clock.old) (C.readings clock.new) (λ early late. (bytes : List ℕ) → HoldsLine line.now bytes → (far : SoFar) (left : ℕ) → StandsAt far (KeepsState cache.old) (cache.old.notes) (left + (length bytes + 1)) (F.told folder.old) → PlaysPart result (λ state readings. turns (session_script (played.old.lines + 1) (bytes ∷ [])) state readings) far (KeepsState cache.new) (cache.new.notes) left (around (F.told folder.old) (K.written out.old) (Some early) played.old.refused) (around (F.told folder.new) (K.written out.new) (Some late) played.new.refused)) }
+    ensures played { ReadsAs (C.readings clock.old) (C.readings clock.new) (λ early late.
+        (bytes : List ℕ) → HoldsLine line.now bytes → (far : SoFar) (left : ℕ)
+        → StandsAt far (KeepsState cache.old) (cache.old.notes) (left + (length bytes + 1)) (F.told folder.old)
+        → PlaysPart result (λ state readings. turns (session_script (played.old.lines + 1) (bytes ∷ [])) state readings)
+        far (KeepsState cache.new) (cache.new.notes) left
+        (around (F.told folder.old) (K.written out.old) (Some early) played.old.refused)
+        (around (F.told folder.new) (K.written out.new) (Some late) played.new.refused)) }
     ensures lines { played.new.lines ≡ played.old.lines + 1 }
     ensures is_open { IfDone result (ForSome (F.told folder.new).files (IsOpen cache.new.files)) }
     ensures later { F.faults folder.old ≤ F.faults folder.new }
@@ -95,7 +102,11 @@ fn play_command<F: Folder, K: Sink, C: Clock>(
     clock: &mut C,
 ) -> Result<(), StepFault>
     requires is_open { ForSome (F.told folder.old).files (IsOpen cache.old.files) }
-    ensures played { ReadsAs (C.readings clock.old) (C.readings clock.new) (λ early late. (far : SoFar) (left : ℕ) → StandsAt far (KeepsState cache.old) (cache.old.notes) (left + 2) (F.told folder.old) → PlaysPart result (λ state readings. turns (line_script played.old.lines (Ok (request_of command.now)) ended) state readings) far (KeepsState cache.new) (cache.new.notes) left (around (F.told folder.old) (K.written out.old) (Some early) played.old.refused) (around (F.told folder.new) (K.written out.new) (Some late) played.new.refused)) }
+    ensures played { FromHere (C.readings clock.old) (C.readings clock.new) cache.old (F.told folder.old) 2 (λ far left early late.
+        PlaysPart result (λ state readings. turns (line_script played.old.lines (Ok (request_of command.now)) ended) state readings)
+        far (KeepsState cache.new) (cache.new.notes) left
+        (around (F.told folder.old) (K.written out.old) (Some early) played.old.refused)
+        (around (F.told folder.new) (K.written out.new) (Some late) played.new.refused)) }
     ensures lines { played.new.lines ≡ played.old.lines }
     ensures is_open { IfDone result (ForSome (F.told folder.new).files (IsOpen cache.new.files)) }
     ensures later { F.faults folder.old ≤ F.faults folder.new }
@@ -131,7 +142,9 @@ pub(crate) fn ask<F: Folder, K: Sink, C: Clock>(
     clock: &mut C,
 ) -> Result<Answer, StepFault>
     requires is_open { ForSome (F.told folder.old).files (IsOpen cache.old.files) }
-    ensures asked { ReadsAs (C.readings clock.old) (C.readings clock.new) (λ early late. (far : SoFar) (left : ℕ) → StandsAt far (KeepsState cache.old) (cache.old.notes) (left + 2) (F.told folder.old) → Asks result (request_of command.now) far (KeepsState cache.new) (cache.new.notes) left (around (F.told folder.old) (K.written out.old) (Some early) false) (around (F.told folder.new) (K.written out.new) (Some late) (has_refused result))) }
+    ensures asked { FromHere (C.readings clock.old) (C.readings clock.new) cache.old (F.told folder.old) 2 (λ far left early late.
+        Asks result (request_of command.now) far (KeepsState cache.new) (cache.new.notes) left
+        (around (F.told folder.old) (K.written out.old) (Some early) false) (around (F.told folder.new) (K.written out.new) (Some late) (has_refused result))) }
     ensures is_open { IfDone result (ForSome (F.told folder.new).files (IsOpen cache.new.files)) }
     ensures later { F.faults folder.old ≤ F.faults folder.new }
     ensures printed_later { GoesOn K.is K.faults out.old out.new }
@@ -207,9 +220,15 @@ pub(crate) fn play_bytes<F: Folder, K: Sink, C: Clock>(
     requires is_open { ForSome (F.told folder.old).files (IsOpen cache.old.files) }
     requires buffer { 2200000 ≤ length buffer.old }
     requires few { played.old.lines + pending line.old + length bytes.now < 2 ^ 64 }
-    ensures played { ReadsAs (C.readings clock.old) (C.readings clock.new) (λ early late. (before : List ℕ) → HoldsLine line.old before → (far : SoFar) (left : ℕ) → StandsAt far (KeepsState cache.old) (cache.old.notes) (left + (length before + length bytes.now)) (F.told folder.old) → PlaysPart result (λ state readings. turns (session_script (played.old.lines + 1) (cut_behind before bytes.now).whole) state readings) far (KeepsState cache.new) (cache.new.notes) (left + length (cut_behind before bytes.now).rest) (around (F.told folder.old) (K.written out.old) (Some early) played.old.refused) (around (F.told folder.new) (K.written out.new) (Some late) played.new.refused)) }
+    ensures played { ReadsAs (C.readings clock.old) (C.readings clock.new) (λ early late.
+        (before : List ℕ) → HoldsLine line.old before → (far : SoFar) (left : ℕ)
+        → StandsAt far (KeepsState cache.old) (cache.old.notes) (left + (length before + length bytes.now)) (F.told folder.old)
+        → PlaysPart result (λ state readings. turns (session_script (played.old.lines + 1) (cut_behind before bytes.now).whole) state readings)
+        far (KeepsState cache.new) (cache.new.notes) (left + length (cut_behind before bytes.now).rest)
+        (around (F.told folder.old) (K.written out.old) (Some early) played.old.refused)
+        (around (F.told folder.new) (K.written out.new) (Some late) played.new.refused)) }
     ensures holds { OnOk result ((before : List ℕ) → HoldsLine line.old before → HoldsLine line.new (cut_behind before bytes.now).rest) }
-    ensures counted { OnOk result ((before : List ℕ) → HoldsLine line.old before → played.new.lines ≡ played.old.lines + length (cut_behind before bytes.now).whole) }
+    ensures counted { OnOk result (CountsWhole line.old bytes.now played.old.lines played.new.lines) }
     ensures lines { OnOk result (played.new.lines + pending line.new ≤ played.old.lines + pending line.old + length bytes.now) }
     ensures is_open { IfDone result (ForSome (F.told folder.new).files (IsOpen cache.new.files)) }
     ensures later { F.faults folder.old ≤ F.faults folder.new }

@@ -1,27 +1,22 @@
 // Scripts that aren't read from the input: one list of commands, that of `put`, or the iterations of a generator.
-ghost use Rattle.std.specs.Prelude.{◌≡◌, ◌≢◌, ◌≤◌, ◌+◌, ◌*◌, ◌^◌, List, [], ℕ, Option, Some, false, OnOk};
+ghost use Rattle.std.specs.Prelude.{◌≡◌, ◌≢◌, ◌≤◌, ◌+◌, ◌*◌, ◌^◌, List, ℕ, Option, Some, false, OnOk};
 ghost use Rattle.std.specs.Option.{ForSome, option_map};
 ghost use Rattle.spec_image.specs.Image.{Image};
-ghost use Rattle.spec_image.specs.Checks.{Damage as check_damage};
 ghost use Rattle.spec_image.specs.Told.{Rises, Stays, Told};
-ghost use Rattle.spec_format.specs.BlockFiles.{IsDamagedBy, IsUsable};
 ghost use Rattle.blk_io.specs.Streams.{GoesOn, Readings, later_of};
-ghost use Rattle.blk_model.specs.Bounds.{bounds_of};
-ghost use Rattle.blk_model.specs.Holding.{open_state};
 ghost use Rattle.blk_model.specs.Sizes.{handle_names};
 ghost use Rattle.blk_model.specs.State.{Bounds};
-ghost use Rattle.spec_folder.specs.Found.{found};
 ghost use Rattle.spec_run.specs.Run.{turns};
 ghost use Rattle.blk_object.specs.FailedChecks.{IsFailedCheck};
 ghost use Rattle.blk_cache.specs.Stepping.{IfDone, IfSink, IfStepDamaged, IfStepDevice};
-ghost use Rattle.blk_run.specs.Failing.{IsDamagedRun, IsFailedSomewhere};
-ghost use Rattle.blk_run.specs.Playing.{PlaysPart, SoFar, StandsAt, around};
+ghost use Rattle.blk_run.specs.Playing.{PlaysPart, StandsAt, around};
 ghost use Rattle.blk_run.specs.Scripts.{commands_in, script_of, script_status, closes_script};
-ghost use Rattle.blk_run.specs.Session.{FixedRuns, FixedScript, IsCompleteScript, OnDamage, outside};
-ghost use Rattle.blk_run.specs.Statuses.{CauseOf, IfWhole};
+ghost use Rattle.blk_run.specs.Session.{FixedRuns, outside, seen_as};
+ghost use Rattle.blk_run.specs.Statuses.{IfWhole};
 ghost use Rattle.blk_run.specs.Telling.{ReadsAs};
 ghost use Rattle.blk_disk.specs.Open.{IsOpen};
 ghost use Rattle.blk_cache.specs.CacheKeeping.{KeepsState};
+ghost use Rattle.blk_run.specs.RunClauses.{CauseOfRun, CauseOnceOpen, CompletesScript, FromHere, PlaysScript, ShowsUnread, WhereStands, opened_from, outside_unread};
 
 use crate::ending::Status;
 use crate::fixed::{Put, play_put, play_until_refused};
@@ -54,7 +49,9 @@ fn play_turns<F: Folder, K: Sink, C: Clock>(
     clock: &mut C,
 ) -> Result<(), StepFault>
     requires is_open { ForSome (F.told folder.old).files (IsOpen cache.old.files) }
-    ensures played { ReadsAs (C.readings clock.old) (C.readings clock.new) (λ early late. (far : SoFar) (left : ℕ) → StandsAt far (KeepsState cache.old) (cache.old.notes) (left + 2 * commands_in fixed.entry) (F.told folder.old) → PlaysPart result (turns (script_of fixed.entry)) far (KeepsState cache.new) (cache.new.notes) left (around (F.told folder.old) (K.written out.old) (Some early) refused.old) (around (F.told folder.new) (K.written out.new) (Some late) refused.new)) }
+    ensures played { FromHere (C.readings clock.old) (C.readings clock.new) cache.old (F.told folder.old) (2 * commands_in fixed.entry) (λ far left early late.
+        PlaysPart result (turns (script_of fixed.entry)) far (KeepsState cache.new) (cache.new.notes) left
+        (around (F.told folder.old) (K.written out.old) (Some early) refused.old) (around (F.told folder.new) (K.written out.new) (Some late) refused.new)) }
     ensures is_open { IfDone result (ForSome (F.told folder.new).files (IsOpen cache.new.files)) }
     ensures later { F.faults folder.old ≤ F.faults folder.new }
     ensures printed_later { GoesOn K.is K.faults out.old out.new }
@@ -107,12 +104,20 @@ pub(crate) fn play_script<F: Folder, K: Sink, C: Clock>(
     clock: &mut C,
 ) -> Status
     requires is_open { ForSome (F.told folder.old).files (IsOpen cache.files) }
-    ensures runs { ReadsAs (C.readings clock.old) (C.readings clock.new) (λ early late. (from : Image) (limits : Bounds) (readings : Readings) (left : Option (List ℕ)) (start : Told) (first : Option Readings) → start.files ≡ Some from → first ≡ Some readings → Some early ≡ option_map later_of first → StandsAt (record { start = start; from = from; opened = open_state (found from) limits; done = [] }) (KeepsState cache) cache.notes (2 * handle_names + 2 * commands_in fixed.entry) (F.told folder.old) → FixedRuns result (script_of fixed.entry) limits from readings (Rises (K.faults out.old) (K.faults out.new)) (outside start (K.written out.old) left first) (outside (F.told folder.new) (K.written out.new) left (Some late))) }
+    ensures runs { ReadsAs (C.readings clock.old) (C.readings clock.new) (λ early late.
+        (from : Image) (limits : Bounds) (readings : Readings) (left : Option (List ℕ)) (start : Told) (first : Option Readings)
+        → start.files ≡ Some from → first ≡ Some readings → Some early ≡ option_map later_of first
+        → StandsAt (opened_from start from limits) (KeepsState cache) cache.notes (2 * handle_names + 2 * commands_in fixed.entry) (F.told folder.old)
+        → FixedRuns result (script_of fixed.entry) limits from readings (Rises (K.faults out.old) (K.faults out.new))
+        (outside start (K.written out.old) left first) (outside (F.told folder.new) (K.written out.new) left (Some late))) }
     ensures later { (F.faults folder.old ≤ F.faults folder.new) × GoesOn K.is K.faults out.old out.new }
     ensures handed { IfWhole result (K.waiting out.old ≡ false → K.waiting out.new ≡ false) }
-    ensures untold { (far : SoFar) → StandsAt far (KeepsState cache) cache.notes (2 * handle_names + 2 * commands_in fixed.entry) (F.told folder.old) → result ≢ Status.Damaged }
+    ensures untold { WhereStands cache (F.told folder.old) (2 * handle_names + 2 * commands_in fixed.entry) (result ≢ Status.Damaged) }
     ensures memory { result ≢ Status.Memory }
-    ensures cause { CauseOf result (IsFailedSomewhere (F.told folder.new)) (Rises (F.faults folder.old) (F.faults folder.new)) ⊥ (Rises (K.faults out.old) (K.faults out.new)) ⊥ }
+    ensures cause { CauseOnceOpen result ⊥ (seen_as
+        (outside_unread (F.told folder.old) (K.written out.old) (C.readings clock.old))
+        (outside_unread (F.told folder.new) (K.written out.new) (C.readings clock.new))
+        (Rises (F.faults folder.old) (F.faults folder.new)) ⊥ (K.faults out.old) (K.faults out.new)) }
 {
     let mut refused = false;
     let played = play_turns(&mut cache, &mut refused, fixed, out, folder, clock);
@@ -138,19 +143,31 @@ pub(crate) fn run_script<F: Folder, K: Sink, C: Clock>(
 ) -> Status
     requires few { commands_in fixed ≤ 2 ^ 36 }
     // On a folder that is uninitialized or well formed it is the run of the script on the map model, whatever the clock gives.
-    ensures script { ForSome (F.told folder.old).files (λ from. IsUsable from → ReadsAs (C.readings clock.old) (C.readings clock.new) (λ readings late. (left : Option (List ℕ)) → FixedScript result (script_of fixed.entry) (bounds_of limits) from readings (Rises (K.faults out.old) (K.faults out.new)) (outside (F.told folder.old) (K.written out.old) left (Some readings)) (outside (F.told folder.new) (K.written out.new) left (Some late)))) }
+    ensures script { PlaysScript result (script_of fixed.entry) limits (seen_as
+        (outside_unread (F.told folder.old) (K.written out.old) (C.readings clock.old))
+        (outside_unread (F.told folder.new) (K.written out.new) (C.readings clock.new))
+        (Rises (F.faults folder.old) (F.faults folder.new)) ⊥ (K.faults out.old) (K.faults out.new)) }
 
     // Where nothing fails the whole output is printed, unless it is out of memory.
-    ensures complete { ForSome (F.told folder.old).files (λ from. IsUsable from → ForSome (C.readings clock.old) (λ readings. (left : Option (List ℕ)) → (Rises (F.faults folder.old) (F.faults folder.new) → ⊥) → (Rises (K.faults out.old) (K.faults out.new) → ⊥) → IsCompleteScript result (script_of fixed.entry) (bounds_of limits) from readings (outside (F.told folder.old) (K.written out.old) left (C.readings clock.old)) (outside (F.told folder.new) (K.written out.new) left (C.readings clock.new)))) }
+    ensures complete { CompletesScript result (script_of fixed.entry) limits (seen_as
+        (outside_unread (F.told folder.old) (K.written out.old) (C.readings clock.old))
+        (outside_unread (F.told folder.new) (K.written out.new) (C.readings clock.new))
+        (Rises (F.faults folder.old) (F.faults folder.new)) ⊥ (K.faults out.old) (K.faults out.new)) }
 
     // On an initialized folder of which a check fails that is printed, and no more is done.
-    ensures damage { ForSome (F.told folder.old).files (λ from. (damage : check_damage) → IsDamagedBy damage from → (left : Option (List ℕ)) → OnDamage result damage (K.faults out.old) (K.faults out.new) (outside (F.told folder.old) (K.written out.old) left (C.readings clock.old)) (outside (F.told folder.new) (K.written out.new) left (C.readings clock.new))) }
+    ensures damage { ShowsUnread result (seen_as
+        (outside_unread (F.told folder.old) (K.written out.old) (C.readings clock.old))
+        (outside_unread (F.told folder.new) (K.written out.new) (C.readings clock.new))
+        (Rises (F.faults folder.old) (F.faults folder.new)) ⊥ (K.faults out.old) (K.faults out.new)) }
 
     // Out of memory nothing is done, whatever of folder, output and clock is observable.
     ensures memory { result ≡ Status.Memory → Stays (F.told folder.old) (F.told folder.new) × (K.written out.new ≡ K.written out.old) }
 
     // The cause of each status, on every folder.
-    ensures cause { CauseOf result (IsDamagedRun (F.told folder.old) (F.told folder.new) (K.written out.old) (K.written out.new) (K.faults out.old) (K.faults out.new)) (Rises (F.faults folder.old) (F.faults folder.new)) ⊥ (Rises (K.faults out.old) (K.faults out.new)) ⊥ }
+    ensures cause { CauseOfRun result ⊥ (seen_as
+        (outside_unread (F.told folder.old) (K.written out.old) (C.readings clock.old))
+        (outside_unread (F.told folder.new) (K.written out.new) (C.readings clock.new))
+        (Rises (F.faults folder.old) (F.faults folder.new)) ⊥ (K.faults out.old) (K.faults out.new)) }
     ensures later { (F.faults folder.old ≤ F.faults folder.new) × GoesOn K.is K.faults out.old out.new }
     ensures handed { IfWhole result (K.waiting out.old ≡ false → K.waiting out.new ≡ false) }
 {

@@ -1,28 +1,18 @@
 // A session: the lines of an input are played on a folder.
-ghost use Rattle.std.specs.Prelude.{◌≡◌, ◌≢◌, ◌≤◌, ◌<◌, ◌+◌, ◌*◌, List, [], ℕ, length, IfOk, Option, Some, false};
-ghost use Rattle.std.specs.Option.{ForSome, option_map};
-ghost use Rattle.spec_image.specs.Image.{Image};
-ghost use Rattle.spec_image.specs.Checks.{Damage as check_damage};
-ghost use Rattle.spec_image.specs.Told.{Rises, Stays, Told};
-ghost use Rattle.spec_format.specs.BlockFiles.{IsDamagedBy, IsUsable};
+ghost use Rattle.std.specs.Prelude.{◌≡◌, ◌≢◌, ◌≤◌, ◌<◌, ◌+◌, ◌*◌, [], length, IfOk, Some, false};
+ghost use Rattle.std.specs.Option.{ForSome};
+ghost use Rattle.spec_image.specs.Told.{Rises, Stays};
 ghost use Rattle.blk_io.specs.Faults.{IfDamaged, IfDevice};
-ghost use Rattle.blk_io.specs.Streams.{GoesOn, Readings, later_of};
-ghost use Rattle.blk_model.specs.Bounds.{bounds_of};
-ghost use Rattle.blk_model.specs.Holding.{open_state};
+ghost use Rattle.blk_io.specs.Streams.{GoesOn};
 ghost use Rattle.blk_model.specs.Sizes.{handle_names};
-ghost use Rattle.blk_model.specs.State.{Bounds};
-ghost use Rattle.spec_folder.specs.Found.{found};
 ghost use Rattle.blk_disk.specs.Open.{IsOpen};
-ghost use Rattle.spec_run.specs.Inputs.{by_lines};
-ghost use Rattle.blk_cache.specs.CacheKeeping.{KeepsState};
 ghost use Rattle.blk_run.specs.Ending.{EndsRun};
-ghost use Rattle.blk_run.specs.Failing.{IsCommandDamage, IsDamagedRun, IsFailedSomewhere};
+ghost use Rattle.blk_run.specs.Failing.{IsCommandDamage};
 ghost use Rattle.blk_run.specs.Inputs.{IsTakenUpTo};
 ghost use Rattle.blk_run.specs.Pending.{HoldsLine, pending};
-ghost use Rattle.blk_run.specs.Playing.{SoFar, StandsAt};
-ghost use Rattle.blk_run.specs.Session.{IsComplete, OnDamage, Runs, Session, outside};
-ghost use Rattle.blk_run.specs.Statuses.{CauseOf, may_close, status_after, IfWhole};
-ghost use Rattle.blk_run.specs.Telling.{ReadsAs, TakesAs};
+ghost use Rattle.blk_run.specs.Session.{outside, seen_as};
+ghost use Rattle.blk_run.specs.Statuses.{may_close, status_after, IfWhole};
+ghost use Rattle.blk_run.specs.RunClauses.{CauseOfRun, CauseOnceOpen, CompletesLines, FromHere, PlaysLines, RunsLines, ShowsDamaged, WhereStands};
 
 use crate::closing::close_all;
 use crate::ending::Status;
@@ -52,20 +42,32 @@ pub fn session<F: Folder, S: Source, K: Sink, C: Clock>(
     clock: &mut C,
 ) -> Status
     // On a folder that is uninitialized or well formed it is the run of the lines on the map model, whatever clock and input give.
-    ensures session { ForSome (F.told folder.old).files (λ from. IsUsable from → ReadsAs (C.readings clock.old) (C.readings clock.new) (λ readings late. TakesAs (S.left input.old) (S.left input.new) (λ bytes rest. Session by_lines result (bounds_of limits) budget from readings bytes (Rises (S.faults input.old) (S.faults input.new)) (Rises (K.faults out.old) (K.faults out.new)) (outside (F.told folder.old) (K.written out.old) (Some bytes) (Some readings)) (outside (F.told folder.new) (K.written out.new) (Some rest) (Some late))))) }
+    ensures session { PlaysLines result limits budget (seen_as
+        (outside (F.told folder.old) (K.written out.old) (S.left input.old) (C.readings clock.old))
+        (outside (F.told folder.new) (K.written out.new) (S.left input.new) (C.readings clock.new))
+        (Rises (F.faults folder.old) (F.faults folder.new)) (Rises (S.faults input.old) (S.faults input.new)) (K.faults out.old) (K.faults out.new)) }
 
     // Where nothing fails and the input is within the input limit the whole output is printed, unless the session is out of memory.
-    ensures complete { ForSome (F.told folder.old).files (λ from. IsUsable from → ForSome (C.readings clock.old) (λ readings. ForSome (S.left input.old) (λ bytes. length bytes ≤ budget → (Rises (F.faults folder.old) (F.faults folder.new) → ⊥) → (Rises (S.faults input.old) (S.faults input.new) → ⊥) → (Rises (K.faults out.old) (K.faults out.new) → ⊥) → IsComplete by_lines result (bounds_of limits) from readings bytes (outside (F.told folder.old) (K.written out.old) (S.left input.old) (C.readings clock.old)) (outside (F.told folder.new) (K.written out.new) (S.left input.new) (C.readings clock.new))))) }
+    ensures complete { CompletesLines result limits budget (seen_as
+        (outside (F.told folder.old) (K.written out.old) (S.left input.old) (C.readings clock.old))
+        (outside (F.told folder.new) (K.written out.new) (S.left input.new) (C.readings clock.new))
+        (Rises (F.faults folder.old) (F.faults folder.new)) (Rises (S.faults input.old) (S.faults input.new)) (K.faults out.old) (K.faults out.new)) }
 
     // On an initialized folder of which a check fails that is printed, and no more is done.
-    ensures damage { ForSome (F.told folder.old).files (λ from. (damage : check_damage) → IsDamagedBy damage from → OnDamage result damage (K.faults out.old) (K.faults out.new) (outside (F.told folder.old) (K.written out.old) (S.left input.old) (C.readings clock.old)) (outside (F.told folder.new) (K.written out.new) (S.left input.new) (C.readings clock.new))) }
+    ensures damage { ShowsDamaged result (seen_as
+        (outside (F.told folder.old) (K.written out.old) (S.left input.old) (C.readings clock.old))
+        (outside (F.told folder.new) (K.written out.new) (S.left input.new) (C.readings clock.new))
+        (Rises (F.faults folder.old) (F.faults folder.new)) (Rises (S.faults input.old) (S.faults input.new)) (K.faults out.old) (K.faults out.new)) }
 
     // Out of memory nothing is done, whatever of folder, output and clock is observable.
     ensures memory { result ≡ Status.Memory → Stays (F.told folder.old) (F.told folder.new) × (K.written out.new ≡ K.written out.old) }
     ensures untaken { result ≡ Status.Memory → S.left input.new ≡ S.left input.old }
 
     // The cause of each status, on every folder.
-    ensures cause { CauseOf result (IsDamagedRun (F.told folder.old) (F.told folder.new) (K.written out.old) (K.written out.new) (K.faults out.old) (K.faults out.new)) (Rises (F.faults folder.old) (F.faults folder.new)) (Rises (S.faults input.old) (S.faults input.new)) (Rises (K.faults out.old) (K.faults out.new)) (ForSome (S.left input.old) (λ bytes. budget < length bytes)) }
+    ensures cause { CauseOfRun result (ForSome (S.left input.old) (λ bytes. budget < length bytes)) (seen_as
+        (outside (F.told folder.old) (K.written out.old) (S.left input.old) (C.readings clock.old))
+        (outside (F.told folder.new) (K.written out.new) (S.left input.new) (C.readings clock.new))
+        (Rises (F.faults folder.old) (F.faults folder.new)) (Rises (S.faults input.old) (S.faults input.new)) (K.faults out.old) (K.faults out.new)) }
     ensures later { (F.faults folder.old ≤ F.faults folder.new) × ((S.faults input.old ≤ S.faults input.new) × GoesOn K.is K.faults out.old out.new) }
 
     // Where all is done nothing of what was printed waits in the output, on every output.
@@ -122,10 +124,16 @@ fn play<F: Folder, S: Source, K: Sink, C: Clock>(
     requires buffer { 2200000 ≤ length buffer.old }
     requires first { pending line.old ≡ 0 }
     requires nothing { HoldsLine line.old [] }
-    ensures runs { ReadsAs (C.readings clock.old) (C.readings clock.new) (λ early late. TakesAs (S.left input.old) (S.left input.new) (λ bytes rest. (from : Image) (limits : Bounds) (readings : Readings) (start : Told) (first : Option Readings) → start.files ≡ Some from → first ≡ Some readings → Some early ≡ option_map later_of first → StandsAt (record { start = start; from = from; opened = open_state (found from) limits; done = [] }) (KeepsState cache) cache.notes (2 * handle_names + (budget + 1)) (F.told folder.old) → Runs by_lines result limits budget from readings bytes (Rises (S.faults input.old) (S.faults input.new)) (Rises (K.faults out.old) (K.faults out.new)) (outside start (K.written out.old) (Some bytes) first) (outside (F.told folder.new) (K.written out.new) (Some rest) (Some late)))) }
-    ensures untold { (far : SoFar) → StandsAt far (KeepsState cache) cache.notes (2 * handle_names + (budget + 1)) (F.told folder.old) → result ≢ Status.Damaged }
+    ensures runs { RunsLines result cache budget (seen_as
+        (outside (F.told folder.old) (K.written out.old) (S.left input.old) (C.readings clock.old))
+        (outside (F.told folder.new) (K.written out.new) (S.left input.new) (C.readings clock.new))
+        (Rises (F.faults folder.old) (F.faults folder.new)) (Rises (S.faults input.old) (S.faults input.new)) (K.faults out.old) (K.faults out.new)) }
+    ensures untold { WhereStands cache (F.told folder.old) (2 * handle_names + (budget + 1)) (result ≢ Status.Damaged) }
     ensures memory { result ≢ Status.Memory }
-    ensures cause { CauseOf result (IsFailedSomewhere (F.told folder.new)) (Rises (F.faults folder.old) (F.faults folder.new)) (Rises (S.faults input.old) (S.faults input.new)) (Rises (K.faults out.old) (K.faults out.new)) (ForSome (S.left input.old) (λ bytes. budget < length bytes)) }
+    ensures cause { CauseOnceOpen result (ForSome (S.left input.old) (λ bytes. budget < length bytes)) (seen_as
+        (outside (F.told folder.old) (K.written out.old) (S.left input.old) (C.readings clock.old))
+        (outside (F.told folder.new) (K.written out.new) (S.left input.new) (C.readings clock.new))
+        (Rises (F.faults folder.old) (F.faults folder.new)) (Rises (S.faults input.old) (S.faults input.new)) (K.faults out.old) (K.faults out.new)) }
     ensures later { (F.faults folder.old ≤ F.faults folder.new) × ((S.faults input.old ≤ S.faults input.new) × GoesOn K.is K.faults out.old out.new) }
     ensures handed { IfWhole result (K.waiting out.old ≡ false → K.waiting out.new ≡ false) }
     ensures takes { ForSome (S.left input.old) (IsTakenUpTo (budget + 1) (S.left input.new)) }
@@ -189,7 +197,8 @@ pub(crate) fn end<F: Folder, C: Clock>(
     clock: &mut C,
 ) -> Result<(), Fault>
     requires is_open { ForSome (F.told folder.old).files (IsOpen cache.files) }
-    ensures ends { ReadsAs (C.readings clock.old) (C.readings clock.new) (λ early late. (far : SoFar) (left : ℕ) → StandsAt far (KeepsState cache) cache.notes (left + 2 * handle_names) (F.told folder.old) → EndsRun result far (F.told folder.new) (Some early) (Some late)) }
+    ensures ends { FromHere (C.readings clock.old) (C.readings clock.new) cache (F.told folder.old) (2 * handle_names) (λ far left early late.
+        EndsRun result far (F.told folder.new) (Some early) (Some late)) }
     ensures later { F.faults folder.old ≤ F.faults folder.new }
     ensures damaged { IfDamaged result (IsCommandDamage (F.told folder.new)) }
     ensures device { IfDevice result (Rises (F.faults folder.old) (F.faults folder.new)) }

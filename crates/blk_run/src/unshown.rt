@@ -1,14 +1,14 @@
 // Commands whose replies aren't shown.
-ghost use Rattle.std.specs.Prelude.{false, ◌≤◌, ◌+◌, ℕ, None, Some};
+ghost use Rattle.std.specs.Prelude.{false, ◌≤◌, None, Some};
 ghost use Rattle.std.specs.Option.{ForSome};
 ghost use Rattle.spec_image.specs.Told.{Rises};
 ghost use Rattle.blk_model.specs.Request.{request_of};
 ghost use Rattle.blk_object.specs.FailedChecks.{IsFailedCheck};
 ghost use Rattle.blk_cache.specs.Stepping.{IfDone, IfSink, IfStepDamaged, IfStepDevice};
-ghost use Rattle.blk_run.specs.Playing.{Asks, SoFar, StandsAt, around, has_refused};
-ghost use Rattle.blk_run.specs.Telling.{ReadsAs};
+ghost use Rattle.blk_run.specs.Playing.{Asks, around, has_refused};
 ghost use Rattle.blk_disk.specs.Open.{IsOpen};
 ghost use Rattle.blk_cache.specs.CacheKeeping.{KeepsState};
+ghost use Rattle.blk_run.specs.RunClauses.{FromHere};
 
 use crate::playing::ask;
 use blk_cache::{Cache, StepFault};
@@ -23,7 +23,9 @@ pub(crate) fn ask_unshown<F: Folder, C: Clock>(
     clock: &mut C,
 ) -> Result<Answer, StepFault>
     requires is_open { ForSome (F.told folder.old).files (IsOpen cache.old.files) }
-    ensures asked { ReadsAs (C.readings clock.old) (C.readings clock.new) (λ early late. (far : SoFar) (left : ℕ) → StandsAt far (KeepsState cache.old) (cache.old.notes) (left + 2) (F.told folder.old) → Asks result (request_of command.now) far (KeepsState cache.new) (cache.new.notes) left (around (F.told folder.old) None (Some early) false) (around (F.told folder.new) None (Some late) (has_refused result))) }
+    ensures asked { FromHere (C.readings clock.old) (C.readings clock.new) cache.old (F.told folder.old) 2 (λ far left early late.
+        Asks result (request_of command.now) far (KeepsState cache.new) (cache.new.notes) left
+        (around (F.told folder.old) None (Some early) false) (around (F.told folder.new) None (Some late) (has_refused result))) }
     ensures is_open { IfDone result (ForSome (F.told folder.new).files (IsOpen cache.new.files)) }
     ensures later { F.faults folder.old ≤ F.faults folder.new }
     ensures damaged { IfStepDamaged result (IsFailedCheck cache.new.files (F.told folder.new)) }

@@ -47,7 +47,7 @@ pub(crate) fn size_at(stream: u8) -> u32
     EntryView::DATA_SIZE + 4 * u32::from(stream)
 }
 
-// The place of its address.
+// The place of the address of a stream in a record.
 pub(crate) fn addr_at(stream: u8) -> u32
     requires { stream < 3 }
     ensures { result ≡ address_place stream }

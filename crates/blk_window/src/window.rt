@@ -4,9 +4,9 @@ ghost use Rattle.std.specs.Option.{ForSome, option_map};
 ghost use Rattle.std.specs.List.{All, filter_map};
 ghost use Rattle.spec_image.specs.Image.{HasRange};
 ghost use Rattle.spec_image.specs.Steps.{SetLength, Delete, Note, words};
-ghost use Rattle.spec_image.specs.Order.{IsNextFile, IsAfter};
+ghost use Rattle.spec_image.specs.Order.{IsAfter};
 ghost use Rattle.spec_image.specs.Told.{Applies, Stays, AppliesPrefix, Rises, GivesBytes};
-ghost use Rattle.blk_io.specs.FileNames.{file_of};
+ghost use Rattle.blk_io.specs.FileNames.{IsNextName, file_of};
 ghost use Rattle.blk_io.specs.Untold.{untold};
 ghost use Rattle.blk_io.specs.Faults.{OkFor};
 ghost use Rattle.blk_window.specs.Held.{HoldsFileBytes, is_held, page_at, dropped, unless_of, written};
@@ -233,7 +233,7 @@ impl<F: Folder> Folder for Window<F> {
 
     fn list(&mut self, after: Option<FileId>) -> Result<Option<FileId>, Failed>
         ensures after { IfOk result (λ next. ForSome next (λ file. IsAfter (option_map file_of after) (file_of file))) }
-        ensures next { OkFor result (F.told self.old.inner) (λ next image. IsNextFile image (option_map file_of after) (option_map file_of next)) }
+        ensures next { OkFor result (F.told self.old.inner) (IsNextName after) }
         ensures stays { Stays (F.told self.old.inner) (F.told self.new.inner) }
         ensures later { F.faults self.old.inner ≤ F.faults self.new.inner }
         ensures failed { OnErr result (Rises (F.faults self.old.inner) (F.faults self.new.inner)) }

@@ -1,9 +1,10 @@
 // A folder that remembers what was written.
 ghost use Rattle.spec_image.specs.Image.{HasRange};
-ghost use Rattle.spec_image.specs.Order.{IsAfter, IsNextFile};
+ghost use Rattle.spec_image.specs.Order.{IsAfter};
 ghost use Rattle.spec_image.specs.Steps.{Delete, Note, SetLength, words};
 ghost use Rattle.spec_image.specs.Told.{Applies, AppliesPrefix, GivesBytes, Rises, Stays};
-ghost use Rattle.blk_io.specs.FileNames.{file_of};
+ghost use Rattle.blk_io.specs.Faults.{OkFor};
+ghost use Rattle.blk_io.specs.FileNames.{IsNextName, file_of};
 ghost use Rattle.std.specs.Option.{ForSome, option_map};
 ghost use Rattle.std.specs.Prelude.{◌≡◌, ◌≤◌, [], ◌∷◌, length, OnOk, OnErr, IfOk};
 
@@ -126,7 +127,7 @@ impl<F: Folder> Folder for Traced<F> {
 
     fn list(&mut self, after: Option<FileId>) -> Result<Option<FileId>, Failed>
         ensures after { IfOk result (λ next. ForSome next (λ file. IsAfter (option_map file_of after) (file_of file))) }
-        ensures next { IfOk result (λ next. ForSome (F.told self.old.inner).files (λ image. IsNextFile image (option_map file_of after) (option_map file_of next))) }
+        ensures next { OkFor result (F.told self.old.inner) (IsNextName after) }
         ensures stays { Stays (F.told self.old.inner) (F.told self.new.inner) }
         ensures later { F.faults self.old.inner ≤ F.faults self.new.inner }
         ensures failed { OnErr result (Rises (F.faults self.old.inner) (F.faults self.new.inner)) }

@@ -12,7 +12,7 @@ use Rattle.blk_run.proofs.SessionEnds.{begins_at, cause_since, device_cause, ope
 use Rattle.blk_run.proofs.Completeness.{complete}
 use Rattle.blk_run.proofs.Reading.{reads_first, reads_once, reads_told, takes_map, takes_none, takes_told, reads_none}
 use Rattle.blk_run.specs.Telling.{TakesAs}
-use Rattle.blk_run.specs.Session.{Session}
+use Rattle.blk_run.specs.Session.{Session, seen_as}
 use Rattle.spec_run.specs.Inputs.{by_lines}
 use Rattle.blk_io.specs.Streams.{Readings}
 use Rattle.spec_image.specs.Told.{Rises}
@@ -29,7 +29,7 @@ returns-in-Ok-start-clause-session g c from there usable =
     let budget = c.ranges.budget.fits in
     let stands = begins_at from (bounds_of c.args.limits) readings (record { folder = g.F.Folder.told c.args.folder.now; written = g.K.Sink.written c.args.out.now; left = Some bytes; clock = Some readings }) there refl
     (KeepsState c.in-Ok-start.cache) (g.F.Folder.told c.start.new.f) c.in-Ok-start.cache.notes (2 * handle_names + (c.args.budget + 1)) usable (c.in-Ok-start.ensures.last from there) (c.in-Ok-start.ensures.keeps from there) c.in-Ok-start.ensures.notes (omega (arith, budget)) in
-    session_of_runs c.play.result (bounds_of c.args.limits) c.args.budget from readings bytes _ _ _ _
+    session_of_runs c.play.result (bounds_of c.args.limits) c.args.budget from readings bytes _
     (plays from (bounds_of c.args.limits) readings (g.F.Folder.told c.args.folder.now) (Some readings) there refl later stands)))
 
 pub returns-in-Ok-start-clause-cause : goal.returns-in-Ok-start-clause-cause
@@ -52,10 +52,10 @@ returns-in-Err-Device-clause-session g c from there usable =
 pub returns-in-Ok-start-clause-complete : goal.returns-in-Ok-start-clause-complete
 returns-in-Ok-start-clause-complete g c from there usable readings clock bytes left_is within no_device no_source no_sink =
     let cause = returns-in-Ok-start-clause-cause g c in
-    complete (bounds_of c.args.limits) c.args.budget from readings bytes _ _ _ _ _ within no_device no_source no_sink c.play.result
+    complete (bounds_of c.args.limits) c.args.budget from readings bytes _ _ (g.K.Sink.faults c.args.out.now) (g.K.Sink.faults c.play.new.out) _ _ within no_device no_source no_sink c.play.result
     (device_cause c.play.result _ _ _ _ _ cause) (source_cause c.play.result _ _ _ _ _ cause) (sink_cause c.play.result _ _ _ _ _ cause)
-    (takes_told (λ (b : List ℕ) (x y : Option (List ℕ)). Session by_lines c.play.result (bounds_of c.args.limits) c.args.budget from readings b (Rises (g.S.Source.faults c.args.input.now) (g.S.Source.faults c.play.new.input)) (Rises (g.K.Sink.faults c.args.out.now) (g.K.Sink.faults c.play.new.out)) (record { folder = g.F.Folder.told c.args.folder.now; written = g.K.Sink.written c.args.out.now; left = x; clock = g.C.Clock.readings c.args.clock.now }) (record { folder = g.F.Folder.told c.play.new.folder; written = g.K.Sink.written c.play.new.out; left = y; clock = g.C.Clock.readings c.play.new.clock }))
-    (reads_told (λ (r : Readings) (o n : Option Readings). TakesAs (g.S.Source.left c.args.input.now) (g.S.Source.left c.play.new.input) (λ b a. Session by_lines c.play.result (bounds_of c.args.limits) c.args.budget from r b (Rises (g.S.Source.faults c.args.input.now) (g.S.Source.faults c.play.new.input)) (Rises (g.K.Sink.faults c.args.out.now) (g.K.Sink.faults c.play.new.out)) (record { folder = g.F.Folder.told c.args.folder.now; written = g.K.Sink.written c.args.out.now; left = Some b; clock = o }) (record { folder = g.F.Folder.told c.play.new.folder; written = g.K.Sink.written c.play.new.out; left = Some a; clock = n })))
+    (takes_told (λ (b : List ℕ) (x y : Option (List ℕ)). Session by_lines c.play.result (bounds_of c.args.limits) c.args.budget from readings b (seen_as (record { folder = g.F.Folder.told c.args.folder.now; written = g.K.Sink.written c.args.out.now; left = x; clock = g.C.Clock.readings c.args.clock.now }) (record { folder = g.F.Folder.told c.play.new.folder; written = g.K.Sink.written c.play.new.out; left = y; clock = g.C.Clock.readings c.play.new.clock }) (Rises (g.F.Folder.faults c.args.folder.now) (g.F.Folder.faults c.play.new.folder)) (Rises (g.S.Source.faults c.args.input.now) (g.S.Source.faults c.play.new.input)) (g.K.Sink.faults c.args.out.now) (g.K.Sink.faults c.play.new.out)))
+    (reads_told (λ (r : Readings) (o n : Option Readings). TakesAs (g.S.Source.left c.args.input.now) (g.S.Source.left c.play.new.input) (λ b a. Session by_lines c.play.result (bounds_of c.args.limits) c.args.budget from r b (seen_as (record { folder = g.F.Folder.told c.args.folder.now; written = g.K.Sink.written c.args.out.now; left = Some b; clock = o }) (record { folder = g.F.Folder.told c.play.new.folder; written = g.K.Sink.written c.play.new.out; left = Some a; clock = n }) (Rises (g.F.Folder.faults c.args.folder.now) (g.F.Folder.faults c.play.new.folder)) (Rises (g.S.Source.faults c.args.input.now) (g.S.Source.faults c.play.new.input)) (g.K.Sink.faults c.args.out.now) (g.K.Sink.faults c.play.new.out))))
     (returns-in-Ok-start-clause-session g c from there usable) readings clock) bytes left_is)
 
 pub returns-in-Err-Memory-clause-session : goal.returns-in-Err-Memory-clause-session
