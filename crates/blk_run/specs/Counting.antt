@@ -1,5 +1,5 @@
 -- The contract of the subcommand `count`.
-use Rattle.std.specs.Prelude.{◌≡◌, ◌≢◌, ◌⊎◌, ℕ, None}
+use Rattle.std.specs.Prelude.{◌≡◌, ◌≢◌, ◌⊎◌, None}
 use Rattle.std.specs.Option.{ForSome, option_map}
 use Rattle.spec_image.specs.Told.{PassesAny, Stays}
 use Rattle.blk_model.specs.State.{Bounds}

@@ -2,7 +2,7 @@
 ghost use Rattle.std.specs.Prelude.{◌≡◌, ◌≢◌, ◌⊎◌, ◌≤◌, ◌*◌, ◌++◌, List, ℕ, None, OnOk, Option, Some, false};
 ghost use Rattle.std.specs.Option.{ForSome, option_map};
 ghost use Rattle.spec_image.specs.Image.{Image, Index as index, byte};
-ghost use Rattle.spec_image.specs.Told.{Rises, Stays, Told, PassesAny, Leaves, LeavesWhere};
+ghost use Rattle.spec_image.specs.Told.{Rises, Stays, Told, PassesAny, LeavesFrom, LeavesWhere};
 ghost use Rattle.spec_format.specs.Headers.{IsUnfinished, create_time_of};
 ghost use Rattle.blk_io.specs.Streams.{Appends, GoesOn, Readings, later_of};
 ghost use Rattle.blk_model.specs.Bounds.{bounds_of};
@@ -78,7 +78,7 @@ pub(crate) fn run_count<F: Folder, K: Sink, C: Clock>(
         (K.written out.old) (K.written out.new) (K.faults out.old) (K.faults out.new) }
 
     // In the end recovery gives the same, and the folder is consistent.
-    ensures ended { IsDoneOrSink result → Leaves (F.told folder.old) (F.told folder.new) EndsSame }
+    ensures ended { IsDoneOrSink result → LeavesFrom (F.told folder.old) (F.told folder.new) EndsSame }
 
     // An uninitialized folder is made at the next reading of the clock, and keeps that moment.
     ensures made { IsDoneOrSink result → LeavesWhere (F.told folder.old) (F.told folder.new) IsUnfinished (λ _. IsMadeAtNext (C.readings clock.old)) }
@@ -119,8 +119,8 @@ fn count<F: Folder, K: Sink>(cache: Cache, folder: &mut F, out: &mut K) -> Statu
     ensures answers { (result ≡ Status.Ok) ⊎ ((result ≡ Status.Sink) ⊎ (result ≡ Status.Device)) }
     ensures printed { PrintsCountAt result (totals_line cache.items cache.bytes) (K.written out.old) (K.written out.new) }
     ensures ended { IsDoneOrSink result → EndsKept cache (F.told folder.old) (F.told folder.new) }
-    ensures session { IsDoneOrSink result → Leaves (F.told folder.old) (F.told folder.new) HasSessionOf }
-    ensures made { IsDoneOrSink result → Leaves (F.told folder.old) (F.told folder.new) (λ from. WasMadeAt (create_time_of (byte from index))) }
+    ensures session { IsDoneOrSink result → LeavesFrom (F.told folder.old) (F.told folder.new) HasSessionOf }
+    ensures made { IsDoneOrSink result → LeavesFrom (F.told folder.old) (F.told folder.new) (λ from. WasMadeAt (create_time_of (byte from index))) }
     ensures stops { HoldsKept cache (F.told folder.old) (F.told folder.new) }
     ensures silent { (F.told folder.old).files ≡ None → (F.told folder.new).files ≡ None }
     ensures later { F.faults folder.old ≤ F.faults folder.new }
