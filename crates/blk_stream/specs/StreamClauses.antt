@@ -28,8 +28,8 @@ use Rattle.blk_stream.specs.Streams.{address_place, size_place, streams_at}
 -- All steps and answers.
 
 -- where P holds of the folder before a call and the answer is Ok, the answer and the folder that it leaves are in relation Q to that one
-abbrev pub OkEndsWhere : {A E : Type 0} → Result A E → (old new : Told) → (Image → Type 0) → (A → Image → Image → Type 0) → Type 0
-OkEndsWhere result old new P Q = IfOk result (λ answer. ForSome old.files (λ from. P from → ForSome new.files (Q answer from)))
+abbrev pub OkEndsIf : {A E : Type 0} → Result A E → (old new : Told) → (Image → Type 0) → (A → Image → Image → Type 0) → Type 0
+OkEndsIf result old new P Q = IfOk result (λ answer. ForSome old.files (λ from. P from → ForSome new.files (Q answer from)))
 
 -- Records whose bytes were read.
 

@@ -9,7 +9,7 @@ ghost use Rattle.spec_folder.specs.Entries.{most_stream_bytes};
 ghost use Rattle.blk_io.specs.Faults.{IfDamaged, IfDevice, UndamagedWhere};
 ghost use Rattle.blk_disk.specs.Tables.{Agrees, stands_among};
 ghost use Rattle.blk_alloc.specs.Extending.{KeepsStanding};
-ghost use Rattle.blk_stream.specs.StreamClauses.{AreRecordBytes, FillsFor, HasRecordSeal, IsFreeingCause, LeavesChecked, LeavesRead, LeavesSomePlace, OkEndsWhere, StopsChecked, StopsSomePlace, UndamagedChecked};
+ghost use Rattle.blk_stream.specs.StreamClauses.{AreRecordBytes, FillsFor, HasRecordSeal, IsFreeingCause, LeavesChecked, LeavesRead, LeavesSomePlace, OkEndsIf, StopsChecked, StopsSomePlace, UndamagedChecked};
 ghost use Rattle.blk_stream.specs.Streams.{may_keep};
 ghost use Rattle.blk_stream.specs.WriteClauses.{EndsByStage, EndsWithSeal, EndsWritten, IsReadAndWritable, ByStages, StopsStreamWrite, IfMoved, IfMovedCut};
 ghost use Rattle.blk_stream.specs.Copying.{HasOldPlace};
@@ -76,8 +76,8 @@ fn filled_place<F: Folder>(
     requires complete { ForSome (F.told folder.old).files HasWholeIndex }
     ensures fits { IfOk result (λ addr. may_keep files.new size (unwrap_or addr 0) ≡ true) }
     ensures keeps { KeepsStanding files.old files.new }
-    ensures filled { OkEndsWhere result (F.told folder.old) (F.told folder.new) (CanBeFilled files.old old size) (FillsFor files.old old size offset bytes.now) }
-    ensures staged { OkEndsWhere result (F.told folder.old) (F.told folder.new) (CanBeFilled files.old old size) (IsFilled files.old files.new) }
+    ensures filled { OkEndsIf result (F.told folder.old) (F.told folder.new) (CanBeFilled files.old old size) (FillsFor files.old old size offset bytes.now) }
+    ensures staged { OkEndsIf result (F.told folder.old) (F.told folder.new) (CanBeFilled files.old old size) (IsFilled files.old files.new) }
     ensures agrees { OnOk result (ForSome (F.told folder.new).files (Agrees files.new)) }
     ensures stops { StopsWhere (F.told folder.old) (F.told folder.new) (CanBeFilled files.old old size) (FillsInProgress files.old files.new size) }
     ensures stages { StopsWhere (F.told folder.old) (F.told folder.new) (CanBeFilled files.old old size) (FillsByStage files.old files.new) }

@@ -10,7 +10,7 @@ ghost use Rattle.blk_disk.specs.Tables.{Agrees};
 ghost use Rattle.blk_entry.specs.Keys as keys;
 ghost use Rattle.blk_alloc.specs.Extending.{HasItsBlocks, KeepsStanding};
 ghost use Rattle.blk_stream.specs.Placing.{CanBePlaced, IsPlaceRefusal, IsNewPlace, KeepsOtherLinks, PlacesInProgress};
-ghost use Rattle.blk_stream.specs.StreamClauses.{OkEndsWhere};
+ghost use Rattle.blk_stream.specs.StreamClauses.{OkEndsIf};
 ghost use Rattle.blk_stream.specs.Stages.{TakesInProgress, TakesPlace};
 
 use blk_addr::{Addr, Kind, blocks_for, kind_for};
@@ -30,8 +30,8 @@ pub(crate) fn new_place<F: Folder>(
     ensures long { IfOk result (λ addr. kind_of addr ≢ external → HasItsBlocks files.new (file_selector addr)) }
     ensures keeps { KeepsStanding files.old files.new }
     ensures links { IfOk result (λ addr. KeepsOtherLinks files.old files.new addr) }
-    ensures placed { OkEndsWhere result (F.told folder.old) (F.told folder.new) (CanBePlaced files.old size) (IsNewPlace files.old) }
-    ensures takes { OkEndsWhere result (F.told folder.old) (F.told folder.new) (CanBePlaced files.old size) (TakesPlace files.old files.new) }
+    ensures placed { OkEndsIf result (F.told folder.old) (F.told folder.new) (CanBePlaced files.old size) (IsNewPlace files.old) }
+    ensures takes { OkEndsIf result (F.told folder.old) (F.told folder.new) (CanBePlaced files.old size) (TakesPlace files.old files.new) }
     ensures agrees { OnOk result (ForSome (F.told folder.new).files (Agrees files.new)) }
     ensures stops { StopsWhere (F.told folder.old) (F.told folder.new) (CanBePlaced files.old size) (PlacesInProgress files.old size) }
     ensures stages { StopsWhere (F.told folder.old) (F.told folder.new) (CanBePlaced files.old size) TakesInProgress }

@@ -9,7 +9,7 @@ ghost use Rattle.blk_disk.specs.Tables.{Agrees};
 ghost use Rattle.blk_alloc.specs.Extending.{KeepsStanding};
 ghost use Rattle.blk_stream.specs.Placing.{IsPlaceRefusal};
 ghost use Rattle.blk_stream.specs.Stages.{FillsByStage};
-ghost use Rattle.blk_stream.specs.StreamClauses.{HasSpaceFor, IsFilledAt, OkEndsWhere, StoresNew};
+ghost use Rattle.blk_stream.specs.StreamClauses.{HasSpaceFor, IsFilledAt, OkEndsIf, StoresNew};
 ghost use Rattle.blk_stream.specs.Streams.{may_keep};
 
 use crate::filling::fill;
@@ -36,10 +36,10 @@ pub fn store_new<F: Folder>(
     ensures fits { IfOk result (λ addr. may_keep files.new (offset + length bytes.now) addr ≡ true) }
 
     // Where there is space for them they are stored there.
-    ensures stored { OkEndsWhere result (F.told folder.old) (F.told folder.new) (HasSpaceFor files.old offset bytes.now) (StoresNew offset bytes.now) }
+    ensures stored { OkEndsIf result (F.told folder.old) (F.told folder.new) (HasSpaceFor files.old offset bytes.now) (StoresNew offset bytes.now) }
 
     // A place was allocated and then filled; at each word it is being allocated or filled.
-    ensures staged { OkEndsWhere result (F.told folder.old) (F.told folder.new) (HasSpaceFor files.old offset bytes.now) (IsFilledAt files.old files.new) }
+    ensures staged { OkEndsIf result (F.told folder.old) (F.told folder.new) (HasSpaceFor files.old offset bytes.now) (IsFilledAt files.old files.new) }
     ensures stages { StopsWhere (F.told folder.old) (F.told folder.new) (HasSpaceFor files.old offset bytes.now) (FillsByStage files.old files.new) }
 
     ensures keeps { KeepsStanding files.old files.new }
