@@ -51,10 +51,10 @@ are_same() {
     [ "$(sha256sum <"$1")" = "$(sha256sum <"$2")" ]
 }
 
-# Prints the counts. Nothing that was started may be left to run on.
+# Prints the counts; the status is 1 where something failed. Nothing that was started may be left to run on.
 finish() {
     echo "$passed passed, $failed failed"
-    exit 0
+    exit $((failed > 0))
 }
 
 # Prints all that a folder has: each name, hidden ones too, with its kind, and each file's bytes.
