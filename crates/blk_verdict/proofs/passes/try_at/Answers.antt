@@ -49,9 +49,9 @@ returns-in_ok-push-clause-tried g c image there agrees are before w at so_far =
     ap (is_of_pass c.args.children) (sym (c.in_ok-child.ensures.child image there agrees are said.fields)) ∙ sym c.is_of_pass.ensures ∙ c.if-is_of_pass.true in
     let now = told_now image c.in_ok-child.ensures.reads.stays there in
     let one : Tried = record { place = c.args.i; reason = c.in_ok-reason.reason } in
-    subst (λ (n : ℕ). AreTried image nodes (before ++ of_pass (store_of image) c.args.children (n ∷ [])) c.judge_walked.new.judged.kept.kept.items c.push.new.judged.tried.items) same
-    (subst (λ (ns : List ℕ). AreTried image nodes ns c.judge_walked.new.judged.kept.kept.items c.push.new.judged.tried.items) (sym (passes (store_of image) c.args.children before c.in-Some.here.addr test))
-    (subst (λ (ts : List Tried). AreTried image nodes (before ++ c.in-Some.here.addr ∷ []) c.judge_walked.new.judged.kept.kept.items ts) (sym c.in_ok-push.ensures)
-    (tried_more image nodes before c.args.judged.now.kept.kept.items c.args.judged.now.tried.items c.in-Some.here.addr c.judge_walked.new.judged.kept.kept.items one so_far said.addr
+    subst (λ (n : ℕ). AreTried image nodes (before ++ of_pass (store_of image) c.args.children (n ∷ [])) c.judge_walked.new.kept.kept.items c.push.new.tried.items) same
+    (subst (λ (ns : List ℕ). AreTried image nodes ns c.judge_walked.new.kept.kept.items c.push.new.tried.items) (sym (passes (store_of image) c.args.children before c.in-Some.here.addr test))
+    (subst (λ (ts : List Tried). AreTried image nodes (before ++ c.in-Some.here.addr ∷ []) c.judge_walked.new.kept.kept.items ts) (sym c.in_ok-push.ensures)
+    (tried_more image nodes before c.args.judged.now.kept.kept.items c.args.judged.now.tried.items c.in-Some.here.addr c.judge_walked.new.kept.kept.items one so_far said.addr
     (c.in_ok-reason.ensures.answer image now agrees are said.fields (kept_after (store_of image) held_rule [] before) so_far.shown)
     (c.in_ok-reason.ensures.shown image now agrees are said.fields (kept_after (store_of image) held_rule [] before) so_far.shown))))
