@@ -12,8 +12,7 @@ ghost use Rattle.blk_run.specs.Telling.{ReadsAs, TakesAs};
 ghost use Rattle.blk_disk.specs.Open.{IsOpen};
 ghost use Rattle.blk_cache.specs.CacheKeeping.{KeepsState};
 
-use crate::line::Line;
-use crate::playing::{Played, play_bytes, play_line};
+use crate::playing::{Lines, play_bytes, play_line};
 use blk_cache::{Cache, StepFault};
 use blk_io::{Clock, Failed, Folder, Sink, Source};
 
@@ -57,10 +56,8 @@ fn front(bytes: &[u8], count: usize) -> &[u8]
 // Plays the lines of an input, up to the input limit.
 pub(crate) fn play_input<F: Folder, S: Source, K: Sink, C: Clock>(
     cache: &mut Cache,
-    played: &mut Played,
-    line: &mut Line,
+    lines: &mut Lines,
     buffer: &mut [u8],
-    budget: u64,
     input: &mut S,
     out: &mut K,
     folder: &mut F,
@@ -68,15 +65,15 @@ pub(crate) fn play_input<F: Folder, S: Source, K: Sink, C: Clock>(
 ) -> Result<InputEnd, StepFault>
     requires is_open { ForSome (F.told folder.old).files (IsOpen cache.old.files) }
     requires buffer { 2200000 ≤ length buffer.old }
-    requires first { played.old.lines + pending line.old ≡ 0 }
-    requires nothing { HoldsLine line.old [] }
+    requires first { lines.old.played.lines + pending lines.old.line ≡ 0 }
+    requires nothing { HoldsLine lines.old.line [] }
     ensures played { ReadsAs (C.readings clock.old) (C.readings clock.new) (λ early late. TakesAs (S.left input.old) (S.left input.new) (λ bytes rest.
-        IsTakenUpTo (budget + 1) (Some rest) bytes × ((far : SoFar) (spare : ℕ)
-        → StandsAt far (KeepsState cache.old) (cache.old.notes) (spare + (budget + 1)) (F.told folder.old)
-        → PlaysInput result budget (Some bytes) (Some rest) far (KeepsState cache.new) (cache.new.notes) spare
-        (around (F.told folder.old) (K.written out.old) (Some early) played.old.refused)
-        (around (F.told folder.new) (K.written out.new) (Some late) played.new.refused)))) }
-    ensures taken { ForSome (S.left input.old) (IsTakenUpTo (budget + 1) (S.left input.new)) }
+        IsTakenUpTo (lines.old.budget + 1) (Some rest) bytes × ((far : SoFar) (spare : ℕ)
+        → StandsAt far (KeepsState cache.old) (cache.old.notes) (spare + (lines.old.budget + 1)) (F.told folder.old)
+        → PlaysInput result lines.old.budget (Some bytes) (Some rest) far (KeepsState cache.new) (cache.new.notes) spare
+        (around (F.told folder.old) (K.written out.old) (Some early) lines.old.played.refused)
+        (around (F.told folder.new) (K.written out.new) (Some late) lines.new.played.refused)))) }
+    ensures taken { ForSome (S.left input.old) (IsTakenUpTo (lines.old.budget + 1) (S.left input.new)) }
     ensures is_open { IfDone result (ForSome (F.told folder.new).files (IsOpen cache.new.files)) }
     ensures later { F.faults folder.old ≤ F.faults folder.new }
     ensures printed_later { GoesOn K.is K.faults out.old out.new }
@@ -86,10 +83,10 @@ pub(crate) fn play_input<F: Folder, S: Source, K: Sink, C: Clock>(
     ensures device { IfStepDevice result (Rises (F.faults folder.old) (F.faults folder.new)) }
     ensures sink { IfSink result (Rises (K.faults out.old) (K.faults out.new)) }
     ensures source { IfFailed result (Rises (S.faults input.old) (S.faults input.new)) }
-    ensures too_long { IfTooLong result (ForSome (S.left input.old) (λ bytes. budget < length bytes)) }
+    ensures too_long { IfTooLong result (ForSome (S.left input.old) (λ bytes. lines.old.budget < length bytes)) }
 {
     let mut piece = [0u8; PIECE];
-    let mut left = budget;
+    let mut left = lines.budget;
     loop {
         let Ok(n) = take_piece(input, left, &mut piece) else {
             return Ok(InputEnd::Failed);
@@ -100,8 +97,7 @@ pub(crate) fn play_input<F: Folder, S: Source, K: Sink, C: Clock>(
         let usable = left.min(n as u64);
         play_bytes(
             cache,
-            played,
-            line,
+            lines,
             front(&piece, usable as usize),
             buffer,
             out,
@@ -113,8 +109,16 @@ pub(crate) fn play_input<F: Folder, S: Source, K: Sink, C: Clock>(
         }
         left -= usable;
     }
-    if !line.is_empty() {
-        play_line(cache, played, line, buffer, out, folder, clock)?;
+    if !lines.line.is_empty() {
+        play_line(
+            cache,
+            &mut lines.played,
+            &lines.line,
+            buffer,
+            out,
+            folder,
+            clock,
+        )?;
     }
     Ok(InputEnd::Whole)
 }

@@ -82,26 +82,33 @@ pub(crate) fn doom<F: Folder, K: Sink, C: Clock>(
     run_script(alloc, limits, commands, out, folder, clock)
 }
 
+// A stream of an entry, by its key as it is spelled in a script line.
+#[derive(Clone, Copy)]
+pub(crate) struct Place<'a> {
+    pub(crate) key: &'a [u8],
+    pub(crate) stream: u8,
+}
+
 // Writes the whole input to a stream of the entry with a key, which is spelled as in a script line. The input is read before
 // the folder is opened.
 pub(crate) fn put<F: Folder, S: Source, K: Sink, C: Clock>(
     alloc: Global,
     limits: Limits,
-    key: &[u8],
-    stream: u8,
+    place: Place,
     input: &mut S,
     out: &mut K,
     folder: &mut F,
     clock: &mut C,
 ) -> Status
-    requires spelled { key_field key.now ≡ Ok (percent_decode key.now) }
-    ensures performs { Performs (whole_input (put_script (percent_decode key.now) stream)) result (bounds_of limits) (seen_as
+    requires spelled { key_field place.key.now ≡ Ok (percent_decode place.key.now) }
+    ensures performs { Performs (whole_input (put_script (percent_decode place.entry.key.now) place.entry.stream)) result (bounds_of limits) (seen_as
         (outside (F.told folder.old) (K.written out.old) (S.left input.old) (C.readings clock.old))
         (outside (F.told folder.new) (K.written out.new) (S.left input.new) (C.readings clock.new))
         (Rises (F.faults folder.old) (F.faults folder.new)) (Rises (S.faults input.old) (S.faults input.new)) (K.faults out.old) (K.faults out.new)) }
     ensures later { (F.faults folder.old ≤ F.faults folder.new) × ((S.faults input.old ≤ S.faults input.new) × GoesOn K.is K.faults out.old out.new) }
     ensures handed { IfWhole result (K.waiting out.old ≡ false → K.waiting out.new ≡ false) }
 {
+    let Place { key, stream } = place;
     let Ok(mut buffer) = take_buffer(alloc, key.len()) else {
         return Status::Memory;
     };

@@ -33,6 +33,14 @@ pub(crate) struct Played {
     pub(crate) refused: bool,
 }
 
+// The lines of an input: those so far, the one of which a part has come, and how many bytes of the input are used at most.
+#[derive(Drop)]
+pub(crate) struct Lines {
+    pub(crate) played: Played,
+    pub(crate) line: Line,
+    pub(crate) budget: u64,
+}
+
 // Prints that a line is no command.
 fn print_error<K: Sink>(out: &mut K, number: u64, why: LineFault) -> Result<(), Failed>
     ensures steps { OnOk result (K.written out.new ≡ option_map (λ w. w ++ line_fault_text number why) (K.written out.old)) }
@@ -209,8 +217,7 @@ fn behind(bytes: &[u8], count: usize) -> &[u8]
 // Plays the lines that end in some bytes; the last, which has no end, is kept for what follows.
 pub(crate) fn play_bytes<F: Folder, K: Sink, C: Clock>(
     cache: &mut Cache,
-    played: &mut Played,
-    line: &mut Line,
+    lines: &mut Lines,
     bytes: &[u8],
     buffer: &mut [u8],
     out: &mut K,
@@ -219,17 +226,17 @@ pub(crate) fn play_bytes<F: Folder, K: Sink, C: Clock>(
 ) -> Result<(), StepFault>
     requires is_open { ForSome (F.told folder.old).files (IsOpen cache.old.files) }
     requires buffer { 2200000 ≤ length buffer.old }
-    requires few { played.old.lines + pending line.old + length bytes.now < 2 ^ 64 }
+    requires few { lines.old.played.lines + pending lines.old.line + length bytes.now < 2 ^ 64 }
     ensures played { ReadsAs (C.readings clock.old) (C.readings clock.new) (λ early late.
-        (before : List ℕ) → HoldsLine line.old before → (far : SoFar) (left : ℕ)
+        (before : List ℕ) → HoldsLine lines.old.line before → (far : SoFar) (left : ℕ)
         → StandsAt far (KeepsState cache.old) (cache.old.notes) (left + (length before + length bytes.now)) (F.told folder.old)
-        → PlaysPart result (λ state readings. turns (session_script (played.old.lines + 1) (cut_behind before bytes.now).whole) state readings)
+        → PlaysPart result (λ state readings. turns (session_script (lines.old.played.lines + 1) (cut_behind before bytes.now).whole) state readings)
         far (KeepsState cache.new) (cache.new.notes) (left + length (cut_behind before bytes.now).rest)
-        (around (F.told folder.old) (K.written out.old) (Some early) played.old.refused)
-        (around (F.told folder.new) (K.written out.new) (Some late) played.new.refused)) }
-    ensures holds { OnOk result ((before : List ℕ) → HoldsLine line.old before → HoldsLine line.new (cut_behind before bytes.now).rest) }
-    ensures counted { OnOk result (CountsWhole line.old bytes.now played.old.lines played.new.lines) }
-    ensures lines { OnOk result (played.new.lines + pending line.new ≤ played.old.lines + pending line.old + length bytes.now) }
+        (around (F.told folder.old) (K.written out.old) (Some early) lines.old.played.refused)
+        (around (F.told folder.new) (K.written out.new) (Some late) lines.new.played.refused)) }
+    ensures holds { OnOk result ((before : List ℕ) → HoldsLine lines.old.line before → HoldsLine lines.new.line (cut_behind before bytes.now).rest) }
+    ensures counted { OnOk result (CountsWhole lines.old.line bytes.now lines.old.played.lines lines.new.played.lines) }
+    ensures lines { OnOk result (lines.new.played.lines + pending lines.new.line ≤ lines.old.played.lines + pending lines.old.line + length bytes.now) }
     ensures is_open { IfDone result (ForSome (F.told folder.new).files (IsOpen cache.new.files)) }
     ensures later { F.faults folder.old ≤ F.faults folder.new }
     ensures printed_later { GoesOn K.is K.faults out.old out.new }
@@ -240,11 +247,19 @@ pub(crate) fn play_bytes<F: Folder, K: Sink, C: Clock>(
 {
     let mut rest = bytes;
     while let Some(end) = line_end(rest) {
-        line.add(&rest[..end]);
-        play_line(cache, played, line, buffer, out, folder, clock)?;
-        line.clear();
+        lines.line.add(&rest[..end]);
+        play_line(
+            cache,
+            &mut lines.played,
+            &lines.line,
+            buffer,
+            out,
+            folder,
+            clock,
+        )?;
+        lines.line.clear();
         rest = behind(rest, end + 1);
     }
-    line.add(rest);
+    lines.line.add(rest);
     Ok(())
 }

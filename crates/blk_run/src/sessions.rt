@@ -18,7 +18,7 @@ use crate::closing::close_all;
 use crate::ending::Status;
 use crate::input::{InputEnd, play_input};
 use crate::line::Line;
-use crate::playing::Played;
+use crate::playing::{Lines, Played};
 use crate::printing::print_damage;
 use blk_cache::{Cache, OpenFault, StepFault};
 use blk_io::{Clock, Fault, Folder, NoMemory, Sink, Source};
@@ -76,23 +76,22 @@ pub fn session<F: Folder, S: Source, K: Sink, C: Clock>(
     // No more of the input is taken than the input limit and one byte.
     ensures takes { ForSome (S.left input.old) (IsTakenUpTo (budget + 1) (S.left input.new)) }
 {
-    let Ok(mut line) = Line::new(alloc) else {
+    let Ok(line) = Line::new(alloc) else {
         return Status::Memory;
+    };
+    let mut lines = Lines {
+        played: Played {
+            lines: 0,
+            refused: false,
+        },
+        line,
+        budget,
     };
     let Ok(mut buffer) = take_line_buffer(alloc) else {
         return Status::Memory;
     };
     match Cache::start(alloc, folder, limits, clock.now()) {
-        Ok(cache) => play(
-            cache,
-            &mut line,
-            &mut buffer,
-            budget,
-            input,
-            out,
-            folder,
-            clock,
-        ),
+        Ok(cache) => play(cache, &mut lines, &mut buffer, input, out, folder, clock),
         Err(OpenFault::Device) => Status::Device,
         Err(OpenFault::Memory) => Status::Memory,
         Err(OpenFault::Damaged(damage)) => {
@@ -112,9 +111,8 @@ fn take_line_buffer(alloc: Global) -> Result<Vec<u8>, NoMemory>
 // Plays the lines of an input on an open cache, and then closes all handles and the folder.
 fn play<F: Folder, S: Source, K: Sink, C: Clock>(
     mut cache: Cache,
-    line: &mut Line,
+    lines: &mut Lines,
     buffer: &mut [u8],
-    budget: u64,
     input: &mut S,
     out: &mut K,
     folder: &mut F,
@@ -122,38 +120,28 @@ fn play<F: Folder, S: Source, K: Sink, C: Clock>(
 ) -> Status
     requires is_open { ForSome (F.told folder.old).files (IsOpen cache.files) }
     requires buffer { 2200000 ≤ length buffer.old }
-    requires first { pending line.old ≡ 0 }
-    requires nothing { HoldsLine line.old [] }
-    ensures runs { RunsLines result cache budget (seen_as
+    requires first { pending lines.old.line ≡ 0 }
+    requires nothing { HoldsLine lines.old.line [] }
+    ensures runs { RunsLines result cache lines.old.budget (seen_as
         (outside (F.told folder.old) (K.written out.old) (S.left input.old) (C.readings clock.old))
         (outside (F.told folder.new) (K.written out.new) (S.left input.new) (C.readings clock.new))
         (Rises (F.faults folder.old) (F.faults folder.new)) (Rises (S.faults input.old) (S.faults input.new)) (K.faults out.old) (K.faults out.new)) }
-    ensures untold { WhereStands cache (F.told folder.old) (2 * handle_names + (budget + 1)) (result ≢ Status.Damaged) }
+    ensures untold { WhereStands cache (F.told folder.old) (2 * handle_names + (lines.old.budget + 1)) (result ≢ Status.Damaged) }
     ensures memory { result ≢ Status.Memory }
-    ensures cause { CauseOnceOpen result (ForSome (S.left input.old) (λ bytes. budget < length bytes)) (seen_as
+    ensures cause { CauseOnceOpen result (ForSome (S.left input.old) (λ bytes. lines.old.budget < length bytes)) (seen_as
         (outside (F.told folder.old) (K.written out.old) (S.left input.old) (C.readings clock.old))
         (outside (F.told folder.new) (K.written out.new) (S.left input.new) (C.readings clock.new))
         (Rises (F.faults folder.old) (F.faults folder.new)) (Rises (S.faults input.old) (S.faults input.new)) (K.faults out.old) (K.faults out.new)) }
     ensures later { (F.faults folder.old ≤ F.faults folder.new) × ((S.faults input.old ≤ S.faults input.new) × GoesOn K.is K.faults out.old out.new) }
     ensures handed { IfWhole result (K.waiting out.old ≡ false → K.waiting out.new ≡ false) }
-    ensures takes { ForSome (S.left input.old) (IsTakenUpTo (budget + 1) (S.left input.new)) }
+    ensures takes { ForSome (S.left input.old) (IsTakenUpTo (lines.old.budget + 1) (S.left input.new)) }
 {
-    let mut played = Played {
+    lines.played = Played {
         lines: 0,
         refused: false,
     };
-    let ended = play_input(
-        &mut cache,
-        &mut played,
-        line,
-        buffer,
-        budget,
-        input,
-        out,
-        folder,
-        clock,
-    );
-    let status = status_of(&ended, played.refused);
+    let ended = play_input(&mut cache, lines, buffer, input, out, folder, clock);
+    let status = status_of(&ended, lines.played.refused);
     if !closes_after(&ended) {
         return status;
     }

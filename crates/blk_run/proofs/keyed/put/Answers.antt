@@ -24,7 +24,7 @@ returns-in-Ok-read_input-clause-performs g c =
     put_performs c.run_script.result (bounds_of c.args.limits) _ _ _ _
     (record { folder = g.F.Folder.told c.args.folder.now; written = g.K.Sink.written c.args.out.now; left = g.S.Source.left c.args.input.now; clock = g.C.Clock.readings c.args.clock.now })
     (record { folder = g.F.Folder.told c.run_script.new.folder; written = g.K.Sink.written c.run_script.new.out; left = g.S.Source.left c.read_input.new.input; clock = g.C.Clock.readings c.run_script.new.clock })
-    (put_script (percent_decode c.args.key.now) c.args.stream) (take c.in-Ok-read_input.len c.read_input.new.buffer) _ (ap (λ (k : List ℕ). put_script k c.args.stream (take c.in-Ok-read_input.len c.deref.result.now)) key ∙ ap (λ (l : List ℕ). put_script (percent_decode c.args.key.now) c.args.stream (take c.in-Ok-read_input.len l)) same)
+    (put_script (percent_decode c.args.place.key.now) c.args.place.stream) (take c.in-Ok-read_input.len c.read_input.new.buffer) _ (ap (λ (k : List ℕ). put_script k c.args.place.stream (take c.in-Ok-read_input.len c.deref.result.now)) key ∙ ap (λ (l : List ℕ). put_script (percent_decode c.args.place.key.now) c.args.place.stream (take c.in-Ok-read_input.len l)) same)
     (read_whole c.in-Ok-read_input.len c.read_input.new.buffer _ _ c.in-Ok-read_input.ensures.reads.1)
     (takes_map c.in-Ok-read_input.ensures.given (λ bytes rest reads. read_whole c.in-Ok-read_input.len c.read_input.new.buffer (Some bytes) (Some rest) reads.1 bytes refl))
     (record {
@@ -37,7 +37,7 @@ returns-in-Ok-read_input-clause-performs g c =
 
 pub returns-clause-performs : goal.returns-clause-performs
 returns-clause-performs g c =
-    long_put (put_script (percent_decode c.args.key.now) c.args.stream) (bounds_of c.args.limits) _ _ _ _
+    long_put (put_script (percent_decode c.args.place.key.now) c.args.place.stream) (bounds_of c.args.limits) _ _ _ _
     (record { folder = g.F.Folder.told c.args.folder.now; written = g.K.Sink.written c.args.out.now; left = g.S.Source.left c.args.input.now; clock = g.C.Clock.readings c.args.clock.now })
     (record { folder = g.F.Folder.told c.args.folder.now; written = g.K.Sink.written c.args.out.now; left = g.S.Source.left c.read_input.new.input; clock = g.C.Clock.readings c.args.clock.now })
     (reads_none (λ here. tt)) (past c.in-Err-TooLong.field-0 c.in-Err-TooLong.field-0-is c.in-Err-TooLong.ensures.reads)
@@ -51,7 +51,7 @@ returns-clause-performs g c =
 
 pub returns-in-Err-Source-clause-performs : goal.returns-in-Err-Source-clause-performs
 returns-in-Err-Source-clause-performs g c =
-    unread_put (put_script (percent_decode c.args.key.now) c.args.stream) (bounds_of c.args.limits) _ _ _ _
+    unread_put (put_script (percent_decode c.args.place.key.now) c.args.place.stream) (bounds_of c.args.limits) _ _ _ _
     (record { folder = g.F.Folder.told c.args.folder.now; written = g.K.Sink.written c.args.out.now; left = g.S.Source.left c.args.input.now; clock = g.C.Clock.readings c.args.clock.now })
     (record { folder = g.F.Folder.told c.args.folder.now; written = g.K.Sink.written c.args.out.now; left = g.S.Source.left c.read_input.new.input; clock = g.C.Clock.readings c.args.clock.now })
     (search rules) (reads_none (λ here. tt)) (up_to c.in-Err-Source.field-0 c.in-Err-Source.field-0-is c.in-Err-Source.ensures.reads)
@@ -65,14 +65,14 @@ returns-in-Err-Source-clause-performs g c =
 
 pub returns-in_default-clause-performs : goal.returns-in_default-clause-performs
 returns-in_default-clause-performs g c =
-    idle_put (put_script (percent_decode c.args.key.now) c.args.stream) (bounds_of c.args.limits) _ _ _ _
+    idle_put (put_script (percent_decode c.args.place.key.now) c.args.place.stream) (bounds_of c.args.limits) _ _ _ _
     (record { folder = g.F.Folder.told c.args.folder.now; written = g.K.Sink.written c.args.out.now; left = g.S.Source.left c.args.input.now; clock = g.C.Clock.readings c.args.clock.now })
     (record { folder = g.F.Folder.told c.args.folder.now; written = g.K.Sink.written c.args.out.now; left = g.S.Source.left c.args.input.now; clock = g.C.Clock.readings c.args.clock.now })
     (reads_none (λ here. tt)) (record { unwritten = refl; unread = refl; unprinted = refl })
 
 pub returns-in_default-take_buffer-clause-performs : goal.returns-in_default-take_buffer-clause-performs
 returns-in_default-take_buffer-clause-performs g c =
-    idle_put (put_script (percent_decode c.args.key.now) c.args.stream) (bounds_of c.args.limits) _ _ _ _
+    idle_put (put_script (percent_decode c.args.place.key.now) c.args.place.stream) (bounds_of c.args.limits) _ _ _ _
     (record { folder = g.F.Folder.told c.args.folder.now; written = g.K.Sink.written c.args.out.now; left = g.S.Source.left c.args.input.now; clock = g.C.Clock.readings c.args.clock.now })
     (record { folder = g.F.Folder.told c.args.folder.now; written = g.K.Sink.written c.args.out.now; left = g.S.Source.left c.args.input.now; clock = g.C.Clock.readings c.args.clock.now })
     (reads_none (λ here. tt)) (record { unwritten = refl; unread = refl; unprinted = refl })

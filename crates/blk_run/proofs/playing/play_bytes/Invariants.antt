@@ -12,10 +12,10 @@ use Rattle.blk_run.proofs.playing.play_bytes.Given as goal
 abbrev pub invariant-loop-end : goal.invariant-loop-end
 invariant-loop-end g l = record {
   is_open : ForSome (g.F.Folder.told l.folder).files (IsOpen l.cache.files);
-  played : ReadsAs (g.C.Clock.readings l.initial.clock) (g.C.Clock.readings l.clock) (λ early late. (before : List ℕ) → HoldsLine l.initial.line before
-      → ArePlayed before l.bytes l.rest l.line l.initial.played.lines l.played.lines (KeepsState l.initial.cache) (KeepsState l.cache) (l.initial.cache.notes) (l.cache.notes)
-      (around (g.F.Folder.told l.initial.folder) (g.K.Sink.written l.initial.out) (Some early) l.initial.played.refused) (around (g.F.Folder.told l.folder) (g.K.Sink.written l.out) (Some late) l.played.refused));
-  lines : l.played.lines + pending l.line + length l.rest ≤ l.initial.played.lines + pending l.initial.line + length l.bytes;
+  played : ReadsAs (g.C.Clock.readings l.initial.clock) (g.C.Clock.readings l.clock) (λ early late. (before : List ℕ) → HoldsLine l.initial.lines.line before
+      → ArePlayed before l.bytes l.rest l.lines.line l.initial.lines.played.lines l.lines.played.lines (KeepsState l.initial.cache) (KeepsState l.cache) (l.initial.cache.notes) (l.cache.notes)
+      (around (g.F.Folder.told l.initial.folder) (g.K.Sink.written l.initial.out) (Some early) l.initial.lines.played.refused) (around (g.F.Folder.told l.folder) (g.K.Sink.written l.out) (Some late) l.lines.played.refused));
+  lines : l.lines.played.lines + pending l.lines.line + length l.rest ≤ l.initial.lines.played.lines + pending l.initial.lines.line + length l.bytes;
   buffer : length l.buffer ≡ length l.initial.buffer;
   later : g.F.Folder.faults l.initial.folder ≤ g.F.Folder.faults l.folder;
   sink : GoesOn g.K.Sink.is g.K.Sink.faults l.initial.out l.out;
