@@ -60,11 +60,11 @@ abbrev pub key_and_stream : (List ℕ → ℕ → Task) → List (List ℕ) → 
 key_and_stream make (key ∷ stream ∷ []) = option_and_then (λ (k : List ℕ). option_map (make k) (stream_word stream)) (key_word key)
 key_and_stream make _ = None
 
--- a subcommand with the key that is spelled so, and the stream
+-- the subcommand that `make` gives for a percent-escaped key and a stream
 abbrev pub task_on : (List ℕ → ℕ → Task) → Option (Bor (List ℕ) × ℕ) → Option Task
 task_on make pair = option_map (λ (p : Bor (List ℕ) × ℕ). make (percent_decode p.0.now) p.1) pair
 
--- a subcommand with this key and this stream
+-- the subcommand that `make` gives for two arguments, a key and a stream
 abbrev pub of_key_and_stream : (List ℕ → ℕ → Task) → (key stream : List ℕ) → Option Task
 of_key_and_stream make key stream = key_and_stream make (key ∷ stream ∷ [])
 

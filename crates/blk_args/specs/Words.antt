@@ -69,7 +69,7 @@ AddsOption apart limit value more = parts_in more ≡ and_option apart limit val
 abbrev pub ExcludesWord : Apart → (word : List ℕ) → (behind : List (String Global)) → Type 0
 ExcludesWord apart word behind = option_and_then asked_by (and_words apart (word ∷ argument_bytes behind)) ≡ None
 
--- what is taken apart by now and the arguments that are left say together what was said by that before, this argument and those behind it
+-- the arguments taken apart by now and those that are left give what those taken apart before, this argument and those behind it gave
 abbrev pub LeavesWords : Apart → (word : List ℕ) → (behind : List (String Global)) → (now : Apart) → (left : List (String Global)) → Type 0
 LeavesWords apart word behind now left = and_words now (argument_bytes left) ≡ and_words apart (word ∷ argument_bytes behind)
 

@@ -50,7 +50,7 @@ ForCreates cache key P = (told : Told) (moment handle : ℕ) → P cache told mo
 abbrev pub ForWantingRoom : Cache → (key : List ℕ) → CommandClause → Type 0
 ForWantingRoom cache key P = (told : Told) (moment handle : ℕ) → WantsRoomAlone cache told moment handle key → P cache told moment (to_create handle key)
 
--- where nothing is done, the command is done with the answer Full
+-- with the answer Full the command is done by a call that changes neither cache nor folder
 abbrev pub AnswersFull : CommandClause
 AnswersFull cache told moment request = Does (HoldsState cache) (HoldsState cache) told told moment request (answer.Refused refusal.Full)
 
@@ -74,7 +74,7 @@ pub record HasRoomFor (state : State) (handle : ℕ) (key : List ℕ) : Type 0 w
 abbrev pub ForCanHave : Cache → Told → (handle : ℕ) → (key : List ℕ) → (State → Type 0) → Type 0
 ForCanHave cache told handle key P = ForSome told.files (λ from. (state : State) → HoldsState cache state from → CanHaveNew state handle key → P state)
 
--- the same of each that has space for it within the limit
+-- P holds of each state that the cache keeps and that has space within the limit for a new object of this key by this handle
 abbrev pub ForHasRoom : Cache → Told → (handle : ℕ) → (key : List ℕ) → (State → Type 0) → Type 0
 ForHasRoom cache told handle key P = ForSome told.files (λ from. (state : State) → HoldsState cache state from → HasRoomFor state handle key → P state)
 

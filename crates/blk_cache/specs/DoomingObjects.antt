@@ -72,7 +72,7 @@ IsDoomTarget state layout key (Some target) = IsTargetAt state layout key target
 abbrev pub FindsDoomTarget : (key : List ℕ) → Option Target → Image → Type 0
 FindsDoomTarget key answer image = (state : State) (layout : Layout) (unlinked : List ℕ) → KeepsUncounted state layout unlinked image → IsDoomTarget state layout key answer
 
--- P holds of each live sparse object with this key, this node and the record that was found, that no handle names
+-- P holds of each live sparse object that no handle names and that has this key, this node and the record that was found
 abbrev pub ForEachUnheld : (key : List ℕ) → (node : ℕ) → Found → Image → ObjectClause → Type 0
 ForEachUnheld key node found from P = ForEachParent key node found.entry found.before from P
 

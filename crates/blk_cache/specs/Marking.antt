@@ -20,10 +20,10 @@ ForEachNamed cache handle from P = (state : State) (number : ℕ) (object : Obje
 
 -- What a call does that makes an object dirty or clean: each of these takes what the call left first, and then the image that it found, and the object.
 
--- the new cache keeps the state in which the object is dirty, or clean
+-- the new cache keeps the state in which the object is dirty, or clean, as `dirty` asks
 abbrev pub MarkedBy : (new : Cache) → (now : Told) → (dirty : Bool) → (from : Image) → State → ℕ → Object → Type 0
 MarkedBy new now dirty from = λ state number object. ForSome now.files (HoldsState new (marked state number object (not dirty)))
 
--- at each word of the steps that were made the object is found as it was, or dirty, or clean
+-- at each word of the steps that were made recovery gives the durable contents of the state before, or of that with the object dirty or clean, as `dirty` asks
 abbrev pub MarkingBy : (told now : Told) → (dirty : Bool) → (from : Image) → State → ℕ → Object → Type 0
 MarkingBy told now dirty from = λ state number object. Passes told now (FindsEither state (marked state number object (not dirty)))

@@ -61,7 +61,7 @@ OpenedBy now opened from = ForSome now.files (IsOpenedAs from opened)
 abbrev pub MadeBy : (now : Told) → (from : Image) → Type 0
 MadeBy now from = ForSome now.files (WasMadeAt (create_time_of (byte from Index)))
 
--- the same, where the recovery by this scan has only words of the index to set
+-- where the recovery by this scan has only words of the index to set, the folder was made when it was before, by its index
 abbrev pub MadeByWords : Scan → (now : Told) → (from : Image) → Type 0
 MadeByWords scan now from = NeedsOnlyWords scan from → MadeBy now from
 

@@ -20,7 +20,7 @@ pub record KeepsPinnedFrom (cache : Cache) (parts : Covered) (behind : Option �
   pub lie : LieCovered state kept.layout covered parts
   pub pinned : IsPinnedFrom state kept.layout covered behind
 
--- in each state that the cache keeps in which they are pinned so, the answer is the last item that isn't pinned
+-- in each state that the cache keeps, with these parts in range and all items from the node `behind` on pinned, the answer is the last item that isn't pinned
 abbrev pub FindsLast : Cache → (parts : Covered) → (behind : Option ℕ) → (found : Option Unpinned) → Image → Type 0
 FindsLast cache parts behind found image =
     (state : State) (kept : HoldsState cache state image) (covered : List Item)

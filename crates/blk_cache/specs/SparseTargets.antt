@@ -94,7 +94,7 @@ abbrev pub FindsTarget : BlockFiles → (early : Option Refusal) → (offset cou
 FindsTarget files early offset count (target.Refused why) = Unit {0}
 FindsTarget files early offset count (target.Found found) = IsAmong files found × IsRangeInside early offset count
 
--- the same by the block files and the handles of a cache
+-- `FindsTarget`, by the block files and the handles of a cache
 abbrev pub FindsTargetIn : Cache → (handle offset count : ℕ) → AskedTarget → Type 0
 FindsTargetIn cache handle offset count answer = FindsTarget cache.files (early_sparse_refusal cache.handles handle offset count) offset count answer
 
@@ -113,13 +113,13 @@ pub record IsRise (state : State) (layout : Layout) (moment handle offset : ℕ)
 abbrev pub WhereTarget : Cache → Told → Target → (offset count : ℕ) → Type 0 → Type 0
 WhereTarget cache told found offset count P = ForSome told.files (λ image. (state : State) (k : HoldsState cache state image) (moment handle : ℕ) → IsTargetNamed state k.layout moment handle offset count found → P)
 
--- in each such state, `measured` is what is measured of the object as a sparse one
+-- in each state that the cache keeps in which a handle names the object of the target, `measured` is what is measured of the object as a sparse one
 abbrev pub MeasuresTarget : Cache → Told → Target → (offset count : ℕ) → Measured → Type 0
 MeasuresTarget cache told found offset count measured =
     ForSome told.files (λ image. (state : State) (k : HoldsState cache state image) (moment handle : ℕ) → (is : IsTargetNamed state k.layout moment handle offset count found)
     → IsMeasured k.layout (with_signature is.its.object (signature_to found)) (signature_to found) offset count measured)
 
--- in each such state, `rise` is what so many bytes add
+-- in each state that the cache keeps in which a handle names the object of the target, `rise` is what so many bytes add
 abbrev pub RaisesTarget : Cache → Told → Target → (offset count : ℕ) → Rise → Type 0
 RaisesTarget cache told found offset count rise =
     ForSome told.files (λ image. (state : State) (k : HoldsState cache state image) (moment handle : ℕ) (bytes : List ℕ) → length bytes ≡ count → IsTargetNamed state k.layout moment handle offset count found

@@ -91,7 +91,7 @@ StoredBy new now result cache told request target more_bytes more_items =
     OnOk result (ForSome told.files (λ from. (state : State) → HoldsState cache state from → (can : CanStore state request.handle request.offset request.bytes.now target more_bytes more_items)
     → ForSome now.files (HoldsState new (sparse_state state can.number can.object (signature_to target) request.offset request.bytes.now))))
 
--- at each word of the steps that were made, the durable contents of each such state are recovered
+-- at each word of the steps that were made, the durable contents of each state that was kept, whose object may get the bytes, are recovered
 abbrev pub StoringBy : (now : Told) → StoreClause
 StoringBy now cache told request target more_bytes more_items =
     ForSome told.files (λ from. (state : State) → HoldsState cache state from → CanStore state request.handle request.offset request.bytes.now target more_bytes more_items → Passes told now (Finds (rest state)))

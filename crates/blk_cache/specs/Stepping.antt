@@ -56,11 +56,11 @@ SaidBy failed_before failed written old new result cache told moment request = O
 abbrev pub FrontBy : {S : Type 0} → (written : S → Option (List ℕ)) → (old new : S) → CommandClause
 FrontBy written old new cache told moment request = SaysPrefix (HoldsState cache) told moment request (written old) (written new)
 
--- the command prints nothing, whether the output failed or not
+-- in each state that the cache keeps the command evicts nothing: no lines for it are right, whether the output failed or not
 abbrev pub PrintsNone : CommandClause
 PrintsNone cache told moment request = (failed : Bool) (written : Option (List ℕ)) → SaysEvicted cache told moment request failed failed written written
 
--- the command has printed nothing yet
+-- no lines yet are right: they are a prefix of the lines of what the command evicts
 abbrev pub PrintsNoneYet : CommandClause
 PrintsNoneYet cache told moment request = (written : Option (List ℕ)) → SaysPrefix (HoldsState cache) told moment request written written
 
@@ -136,7 +136,7 @@ IdleBy now cache told moment request = ForKept (KeepsState cache) told (λ state
 abbrev pub WrittenBy : {S : Type 0} → (written : S → Option (List ℕ)) → (old new : S) → CommandClause
 WrittenBy written old new cache told moment request = ForKept (KeepsState cache) told (λ state. written new ≡ option_map (λ w. w ++ outcome_text (step state moment request)) (written old))
 
--- a prefix of that was printed
+-- a prefix of the lines of what the command evicts and of its reply was printed
 abbrev pub WritingBy : {S : Type 0} → (written : S → Option (List ℕ)) → (old new : S) → CommandClause
 WritingBy written old new cache told moment request = ForKept (KeepsState cache) told (λ state. Appends (written old) (written new) (outcome_text (step state moment request)))
 

@@ -9,7 +9,7 @@ ghost use Rattle.blk_cache.specs.CommandClauses.{ForAnyKept};
 use crate::cache::Cache;
 use crate::covered::Covered;
 
-// The low watermark is below the limit by this share of the limit.
+// The low watermark is below the limit by the limit divided by this.
 const FREE_SHARE: u64 = 16;
 
 impl Cache {

@@ -28,7 +28,7 @@ use blk_lru::touch;
 use blk_model::{Answer, MOST_STREAM, Refusal};
 use blk_object::{count_rise, write_object};
 
-// A stream has at most this share of the bytes that a cache keeps.
+// A stream has at most the bytes that a cache may keep, divided by this.
 const STREAM_SHARE: u64 = 8;
 
 /// A Write: bytes for a stream of the object that a handle names, from an offset on, and the moment at which it is done.

@@ -1,4 +1,4 @@
--- What the calls that evict say: of each eviction unit or item that they may be of, each word takes the image before, and what a state has there.
+-- Clauses of the calls that evict. Each predicate is given the image before the call and what a state has there.
 use Rattle.std.specs.Prelude.{ℕ, [], ◌∷◌, Bool, List, Option, Some}
 use Rattle.std.specs.Option.{ForSome}
 use Rattle.spec_image.specs.Image.{Image}
@@ -60,11 +60,11 @@ StopsGroup old new from state layout group = Passes old new (FindsEither state (
 abbrev pub ForGoingLines : Told → Unpinned → (List ℕ → Type 0) → Type 0
 ForGoingLines told found P = ForSome told.files (λ from. ForEachGoing found from (λ state layout group. P (evicted_text (group ∷ []))))
 
--- P holds of the lines of each such unit if the item has this kind and this key or name
+-- P holds of the lines of each eviction unit of the item that was found, if that has this kind and this key or name
 abbrev pub ForLines : Told → Unpinned → EntryKind → (key : List ℕ) → (List ℕ → Type 0) → Type 0
 ForLines told found kind key P = ForSome told.files (λ from. ForEachOfKind found kind key from (λ state layout group. P (evicted_text (group ∷ []))))
 
--- P holds of the lines of each such unit of a parent, of which this was read
+-- P holds of the lines of each eviction unit of a parent, of which this was read
 abbrev pub ForParentLines : Told → ReadParent → (List ℕ → Type 0) → Type 0
 ForParentLines told read P = ForOwnedParent told read (λ from state layout group. P (evicted_text (group ∷ [])))
 
@@ -84,7 +84,7 @@ ForParentAt told at read P =
 abbrev pub WhereParentAt : Told → Found → ReadParent → (Image → Type 0) → Type 0
 WhereParentAt told at read Q = ForParentAt told at read (λ key from state layout unlinked number object. Q from)
 
--- P holds of the lines of the parts of each such object
+-- P holds of the lines of the parts of each sparse object that no handle names and of which this was read and found
 abbrev pub ForPartLines : Told → Found → ReadParent → (List ℕ → Type 0) → Type 0
 ForPartLines told at read P = ForParentAt told at read (λ key from state layout unlinked number object. P (text_of_parts key (parts_among key state.uses)))
 

@@ -39,13 +39,13 @@ PlaysLines result limits budget seen =
     ForSome seen.old.folder.files (λ from. IsUsable from → ReadsAs seen.old.clock seen.new.clock (λ readings late. TakesAs seen.old.left seen.new.left (λ bytes rest.
     Session by_lines result (bounds_of limits) budget from readings bytes (seen_given seen readings late bytes rest))))
 
--- on such a folder, where nothing fails and the input is within the input limit, the whole output is printed, unless the session is out of memory
+-- on a folder that is uninitialized or well formed, where nothing fails and the input is within its limit, the whole output is printed, unless memory ran out
 abbrev pub CompletesLines : Status → Limits → (budget : ℕ) → Seen → Type 0
 CompletesLines result limits budget seen =
     ForSome seen.old.folder.files (λ from. IsUsable from → ForSome seen.old.clock (λ readings. ForSome seen.old.left (λ bytes. length bytes ≤ budget
     → (seen.device → ⊥) → (seen.source → ⊥) → (Rises seen.before seen.now → ⊥) → IsComplete by_lines result (bounds_of limits) from readings bytes seen.old seen.new)))
 
--- on an initialized folder of which a check fails that check is printed, and no more is done
+-- on an initialized folder of which a check fails: that check is printed, and nothing else is done; or memory ran out or the folder failed, and nothing is done
 abbrev pub ShowsDamaged : Status → Seen → Type 0
 ShowsDamaged result seen = ForSome seen.old.folder.files (λ from. (damage : Damage) → IsDamagedBy damage from → OnDamage result damage seen.before seen.now seen.old seen.new)
 
@@ -54,7 +54,7 @@ abbrev pub CauseOfRun : Status → (long : Type 0) → Seen → Type 0
 CauseOfRun result long seen =
     CauseOf result (IsDamagedRun seen.old.folder seen.new.folder seen.old.written seen.new.written seen.before seen.now) seen.device seen.source (Rises seen.before seen.now) long
 
--- the same of a run whose folder was opened before: a check that fails is one that commands make
+-- the cause of each status of a run whose folder was opened before: a check that fails is one that commands make
 abbrev pub CauseOnceOpen : Status → (long : Type 0) → Seen → Type 0
 CauseOnceOpen result long seen = CauseOf result (IsFailedSomewhere seen.new.folder) seen.device seen.source (Rises seen.before seen.now) long
 
@@ -70,13 +70,13 @@ PlaysScript result script limits seen =
     ForSome seen.old.folder.files (λ from. IsUsable from → ReadsAs seen.old.clock seen.new.clock (λ readings late. (left : Option (List ℕ))
     → FixedScript result script (bounds_of limits) from readings (Rises seen.before seen.now) (outside seen.old.folder seen.old.written left (Some readings)) (outside seen.new.folder seen.new.written left (Some late))))
 
--- on such a folder, where nothing fails, the whole output is printed, unless memory ran out
+-- on a folder that is uninitialized or well formed, where nothing fails, the whole output is printed, unless memory ran out
 abbrev pub CompletesScript : Status → Script → Limits → Seen → Type 0
 CompletesScript result script limits seen =
     ForSome seen.old.folder.files (λ from. IsUsable from → ForSome seen.old.clock (λ readings. (left : Option (List ℕ)) → (seen.device → ⊥) → (Rises seen.before seen.now → ⊥)
     → IsCompleteScript result script (bounds_of limits) from readings (outside seen.old.folder seen.old.written left seen.old.clock) (outside seen.new.folder seen.new.written left seen.new.clock)))
 
--- on an initialized folder of which a check fails that check is printed, and no more is done
+-- on an initialized folder of which a check fails: that check is printed, and nothing else is done; or memory ran out or the folder failed, and nothing is done
 abbrev pub ShowsUnread : Status → Seen → Type 0
 ShowsUnread result seen =
     ForSome seen.old.folder.files (λ from. (damage : Damage) → IsDamagedBy damage from → (left : Option (List ℕ))
@@ -88,7 +88,7 @@ ShowsUnread result seen =
 abbrev pub opened_from : (start : Told) → Image → Bounds → SoFar
 opened_from start from limits = record { start = start; from = from; opened = open_state (found from) limits; done = [] }
 
--- of each run that was opened at the last reading of the clock, and stands at the folder with this cache, the call is the rest: the session of the lines
+-- of each run that was opened at the last reading of the clock, and has come to this folder and this cache, the call is the rest: the session of the lines
 abbrev pub RunsLines : Status → Cache → (budget : ℕ) → Seen → Type 0
 RunsLines result cache budget seen =
     ReadsAs seen.old.clock seen.new.clock (λ early late. TakesAs seen.old.left seen.new.left (λ bytes rest. (from : Image) (limits : Bounds) (readings : Readings) (start : Told) (first : Option Readings)
@@ -96,13 +96,13 @@ RunsLines result cache budget seen =
     → StandsAt (opened_from start from limits) (KeepsState cache) cache.notes (2 * handle_names + (budget + 1)) seen.old.folder
     → Runs by_lines result limits budget from readings bytes seen.source (Rises seen.before seen.now) (outside start seen.old.written (Some bytes) first) (outside seen.new.folder seen.new.written (Some rest) (Some late))))
 
--- P holds where some run stands at the folder with this cache, and so many bytes may come
+-- P holds where some run has come to this folder and this cache, and so many bytes may come
 abbrev pub WhereStands : Cache → Told → (bytes : ℕ) → Type 0 → Type 0
 WhereStands cache told bytes P = (far : SoFar) → StandsAt far (KeepsState cache) cache.notes bytes told → P
 
 -- Parts of a run.
 
--- of each run that stands at the folder with this cache, and `spent` bytes before what is `left`, P holds, whatever readings the clock gives from before the
+-- of each run that has come to this folder and this cache, and `spent` bytes before what is `left`, P holds, whatever readings the clock gives from before the
 -- call and from after it
 abbrev pub FromHere : (clock_old clock_new : Option Readings) → Cache → Told → (spent : ℕ) → (SoFar → (left : ℕ) → (early late : Readings) → Type 0) → Type 0
 FromHere clock_old clock_new cache told spent P =
@@ -123,7 +123,7 @@ pub record Iterating : Type 0 where
 abbrev pub iterating : Cache → Counts → Told → Option Readings → Iterating
 iterating cache counts folder clock = record { cache = cache; counts = counts; folder = folder; clock = clock }
 
--- of each run that stands there, with `spent` bytes before what is left, these `more` commands of an iteration were made and counted, whatever follows it,
+-- of each run that has come to `old`, with `spent` bytes before what is left, `more` commands of an iteration were made and counted, whatever follows it,
 -- whatever was printed, and whether something was refused
 abbrev pub PlaysIteration : Result (Unit {0}) StepFault → (more spent : ℕ) → (Following → Script) → (old new : Iterating) → Type 0
 PlaysIteration result more spent script old new =
