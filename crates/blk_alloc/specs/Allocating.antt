@@ -113,15 +113,15 @@ abbrev pub KeepsItsCount : BlockFiles → Image → Blocks → Image → Type 0
 KeepsItsCount files from place image =
     is_among (all_files files) place.file ≡ true → allocations_of (byte image (Block place.file)) ≡ allocations_of (byte from (Block place.file))
 
--- `empty` of that file counts as many groups, of which all four blocks are free, as the file has by the table from these blocks on
+-- `empty` of the file of the blocks at `place` counts as many groups, of which all four blocks are free, as the file has by the table from these blocks on
 abbrev pub CountsItsRoom : BlockFiles → Blocks → Image → Type 0
 CountsItsRoom files place image = CountsFreeGroups place.file ((blocks_of files place.file - place.start) / 4) image
 
--- that file, if it was there, has as many blocks in the table as an extension gives it
+-- the file of the blocks at `place`, if it was there, has as many blocks in the table as an extension gives it
 abbrev pub IsExtendedIfThere : (old new : BlockFiles) → Blocks → Type 0
 IsExtendedIfThere old new place = is_among (all_files old) place.file ≡ true → blocks_of new place.file ≡ grown (blocks_of old place.file)
 
--- that file, if it wasn't there, has no allocations, its `empty` agrees with its map, and its hints are 0
+-- the file of the blocks at `place`, if it wasn't there, has no allocations, its `empty` agrees with its map, and its hints are 0
 abbrev pub IsFreshIfAdded : BlockFiles → Blocks → Image → Type 0
 IsFreshIfAdded files place image =
     is_among (all_files files) place.file ≡ false → AreAllocations image place.file [] × (EmptyAgrees image place.file × HasNoHints image place.file)
@@ -192,7 +192,7 @@ pub record ExtendsAndAllocates (files : BlockFiles) (kind count : ℕ) (from ima
 abbrev pub AllocatesNewInProgress : BlockFiles → ℕ → Image → Image → Type 0
 AllocatesNewInProgress files kind from image = ExtendsInProgress files kind from image × StaysWhole from image
 
--- this is done, or it broke off at some write before its last
+-- an allocation in an extended or added file is done, or it broke off at some write before its last; block files have grown at most and the headers are kept
 abbrev pub AllocatesNewOrStops : BlockFiles → (kind count : ℕ) → Image → Image → Type 0
 AllocatesNewOrStops files kind count from image = (ExtendsInProgress files kind from image ⊎ ExtendsAndAllocates files kind count from image) × StaysWhole from image
 

@@ -21,7 +21,7 @@ use Rattle.blk_alloc.specs.Rebuilding.{AreCountsRead, AreHeaderBytes, HasMarksOf
 abbrev pub OkLeaves : {A E : Type 0} → Result A E → (old new : Told) → (P : Image → A → Image → Type 0) → Type 0
 OkLeaves result old new P = IfOk result (λ answer. ForSome old.files (λ from. ForSome new.files (P from answer)))
 
--- and this is said only where C holds of the folder before the call
+-- where the answer is Ok and C holds of the folder before the call, P relates that folder, the answer and the folder that the call leaves
 abbrev pub OkLeavesWhere : {A E : Type 0} → Result A E → (old new : Told) → (C : Image → Type 0) → (P : Image → A → Image → Type 0) → Type 0
 OkLeavesWhere result old new C P = IfOk result (λ answer. ForSome old.files (λ from. C from → ForSome new.files (P from answer)))
 
@@ -33,7 +33,7 @@ FoundFor result told P = IfOk result (λ found. IfSome found (λ it. ForSome tol
 abbrev pub NotFoundFor : {A E : Type 0} → Result (Option A) E → Told → (P : Image → Type 0) → Type 0
 NotFoundFor result told P = IfOk result (λ found. found ≡ None → ForSome told.files P)
 
--- where the answer is a failed check, a folder of which P holds is opaque
+-- where P holds of an observable folder, the answer is no failed check
 abbrev pub OpaqueIfDamagedWhere : {A : Type 0} → Result A Fault → Told → (P : Image → Type 0) → Type 0
 OpaqueIfDamagedWhere result told P = IfDamaged result (λ _. ForSome told.files P → told.files ≡ None)
 
@@ -47,42 +47,42 @@ StopsOrEnds old new P Q = ForSome old.files (λ from. PassesTo old new (P from) 
 abbrev pub StopsNeeded : (old new : Told) → (P : Image → Image → Type 0) → Type 0
 StopsNeeded old new P = ForSome old.files (λ from. PassesNeeded old new (P from))
 
--- What was read before a call: it holds of the folder before the call, or nothing is said.
+-- What was read before a call. C holds where the folder before the call has what was read.
 
 -- a clause of a call: on the folder before it, and on what is observable before it and after it
 abbrev pub CallClause : Type 1
 CallClause = Image → (old new : Told) → Type 0
 
--- a word of file n, at offset `place`
+-- C holds where file n had this word at offset `place`
 abbrev pub WhereWord : (old new : Told) → (n place : ℕ) (bytes : List ℕ) → CallClause → Type 0
 WhereWord old new n place bytes C = ForSome old.files (λ from. StandAt (Block n) place bytes 4 from → C from old new)
 
--- all these bytes of file n, from offset `place` on
+-- C holds where file n had all these bytes from offset `place` on
 abbrev pub WhereBytes : (old new : Told) → (n place : ℕ) (bytes : List ℕ) → CallClause → Type 0
 WhereBytes old new n place bytes C = ForSome old.files (λ from. StandAt (Block n) place bytes (length bytes) from → C from old new)
 
--- the counters of file n
+-- C holds where `fields` are the counters of file n
 abbrev pub WhereFields : (old new : Told) → (n : ℕ) (fields : List ℕ) → CallClause → Type 0
 WhereFields old new n fields C = ForSome old.files (λ from. HasReadCounters n fields from → C from old new)
 
--- the map and the counters of file n, and its number of groups
+-- C holds where these are the map and the counters of file n, and its number of groups
 abbrev pub WhereCounts : (old new : Told) → (n groups : ℕ) (map fields : List ℕ) → CallClause → Type 0
 WhereCounts old new n groups map fields C = ForSome old.files (λ from. AreCountsRead n groups map fields from → C from old new)
 
--- these, and updating is 1
+-- C holds where these are the map and the counters of file n, and its number of groups, and its updating is 1
 abbrev pub WhereUpdating : (old new : Told) → (n groups : ℕ) (map fields : List ℕ) → CallClause → Type 0
 WhereUpdating old new n groups map fields C =
     ForSome old.files (λ from. AreCountsRead n groups map fields from → StandAt (Block n) updating_place (word_bytes 1) 4 from → C from old new)
 
--- the number of groups of file n
+-- C holds where file n has so many groups
 abbrev pub WhereGroups : (old new : Told) → (n groups : ℕ) → CallClause → Type 0
 WhereGroups old new n groups C = ForSome old.files (λ from. groups ≡ groups_of (max_entries_in from n) → C from old new)
 
--- this, and the map and the fields in its header
+-- C holds where file n has so many groups, and these are the map and the fields in its header
 abbrev pub WhereHeader : (old new : Told) → (n groups : ℕ) (map fields : List ℕ) → CallClause → Type 0
 WhereHeader old new n groups map fields C = ForSome old.files (λ from. groups ≡ groups_of (max_entries_in from n) → AreHeaderBytes from n map fields → C from old new)
 
--- file n has all its blocks by the table
+-- C holds where file n has all its blocks by the table
 abbrev pub WhereItsBlocks : (old new : Told) → BlockFiles → (n : ℕ) → CallClause → Type 0
 WhereItsBlocks old new files n C = ForSome old.files (λ from. HasItsBlocks files n → C from old new)
 
@@ -116,6 +116,6 @@ EndsMarked claims n from old new = ForSome new.files (λ image. HasMarksOf claim
 abbrev pub EndsRebuilt : Claims → (n : ℕ) → CallClause
 EndsRebuilt claims n from old new = ForSome new.files (λ image. IsRebuilt claims image n)
 
--- where this was so already, no step is made
+-- where map and counters of file n agreed with the used blocks already, and its updating was 0, no step is made
 abbrev pub StaysIfRebuilt : Claims → (n : ℕ) → CallClause
 StaysIfRebuilt claims n from old new = IsRebuilt claims from n → Stays old new

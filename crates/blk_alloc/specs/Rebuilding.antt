@@ -76,7 +76,7 @@ AreRight claims files image = (n : ℕ) → is_among (all_files files) n ≡ tru
 abbrev pub words_of_file : ℕ → List ℕ → List ℕ
 words_of_file n words = filter (is_in_file n) words
 
--- if the used blocks come from the addresses `words`, then the allocations of each of these files are those of them that lie in it, where all of these were valid
+-- if the used blocks are those of the addresses `words`, the allocations of each file in `numbers` are the ones that lie in it, where all of these were valid
 abbrev pub AreItsAllocations : Claims → List ℕ → Image → Image → Type 0
 AreItsAllocations claims numbers from image =
     (words : List ℕ) → IsClaimsOf claims words → (n : ℕ) → is_among numbers n ≡ true → All (λ w. stands_in from w ≡ true) (words_of_file n words) → AreAllocations image n (words_of_file n words)

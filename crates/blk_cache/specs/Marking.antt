@@ -20,7 +20,7 @@ ForEachNamed cache handle from P = (state : State) (number : ℕ) (object : Obje
 
 -- What a call does that makes an object dirty or clean: each of these takes what the call left first, and then the image that it found, and the object.
 
--- the new cache keeps the state in which the object is dirty, or clean, as `dirty` asks
+-- the new cache keeps the state in which the object is dirty, or clean, as `dirty` asks, as `dirty` asks
 abbrev pub MarkedBy : (new : Cache) → (now : Told) → (dirty : Bool) → (from : Image) → State → ℕ → Object → Type 0
 MarkedBy new now dirty from = λ state number object. ForSome now.files (HoldsState new (marked state number object (not dirty)))
 

@@ -10,29 +10,29 @@ use Rattle.spec_format.specs.Sealed.{IsMidUpdate, IsUpdated, RecordChecks, recor
 
 -- Bytes of the blocks of address w, from an offset among them on.
 
--- these are `count` of them
+-- `bytes` are `count` bytes of the blocks of address w, from offset `at` on
 abbrev pub AreBlockBytes : (w at : ℕ) → (bytes : List ℕ) → (count : ℕ) → Image → Type 0
 AreBlockBytes w at bytes count image = bytes ≡ range_at (byte image (Block (file_selector w))) (place w + at) count
 
--- the file has `count` of them, or none is asked for
+-- the file has `count` bytes of the blocks of address w from offset `at` on, or none is asked for
 abbrev pub HasBlockBytes : (w at count : ℕ) → Image → Type 0
 HasBlockBytes w at count image = HasRange image (Block (file_selector w)) (place w + at) count ⊎ (count ≡ 0)
 
--- the frame of a write of `count` of them
+-- the frame of a write of `count` bytes to the blocks of address w, from offset `at` on
 abbrev pub blocks_range : (w at count : ℕ) → Footprint
 blocks_range w at count = range (Block (file_selector w)) (place w + at) count
 
 -- The record of address w.
 
--- these are its bytes
+-- `bytes` are those of the record of address w
 abbrev pub IsRecordAt : (w : ℕ) → (bytes : List ℕ) → Image → Type 0
 IsRecordAt w bytes image = bytes ≡ record_at image w
 
--- the changes were made to it, and its checksum is the hash
+-- the changes were made to the record of address w, and its checksum is the hash
 abbrev pub UpdatesRecord : (w : ℕ) → (changes : List (ℕ × ℕ)) → (from image : Image) → Type 0
 UpdatesRecord w changes from image = IsUpdated from w changes image
 
--- where it has these bytes, and its checksum matches or is absent, it is in the midst of an update before each step and after the last
+-- where the record of address w has these bytes, and its checksum matches or is absent, it is in the midst of an update before each step and after the last
 abbrev pub PassesUpdate : (old new : Told) → (w : ℕ) → (bytes : List ℕ) → (changes : List (ℕ × ℕ)) → Type 0
 PassesUpdate old new w bytes changes = ForSome old.files (λ from. bytes ≡ record_at from w → RecordChecks w from → Passes old new (IsMidUpdate from w changes))
 

@@ -12,6 +12,6 @@ file_of Index = image.Index
 file_of (Block n) = image.Block n
 file_of (External n) = image.External n
 
--- the answer of a listing: the file after this one in an image, or None after the last one
+-- the answer of a listing: the file after this one in an image, the first one after None, or None after the last one
 abbrev pub IsNextName : (after next : Option FileId) → image.Image → Type 0
 IsNextName after next files = IsNextFile files (option_map file_of after) (option_map file_of next)

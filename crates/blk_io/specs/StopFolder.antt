@@ -41,7 +41,7 @@ pub record PassesOn (old new : StopFolder) (failed cause : Bool) : Type 0 where
   pub stopped : steps_left old ≡ 0 → IsFolderStopped old new failed
   pub passed : 0 < steps_left old → CountsCall (stop_counts old) (stop_counts new) failed cause
 
--- a write is such a call, which fails where it was listed to, or where it has more steps than are left
+-- a write is passed on as one call, which fails where it was listed to, or where it has more steps than are left
 abbrev pub PassesWriteOn : (old new : StopFolder) → (failed : Bool) → List TrailStep → Type 0
 PassesWriteOn old new failed steps = PassesOn old new failed (fails_next (stop_counts old) || nat_lt (steps_left old) (length steps))
 

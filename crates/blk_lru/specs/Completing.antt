@@ -22,7 +22,7 @@ abbrev pub FindsNeighbours : ListView → ℕ → Usable (Option Neighbours) →
 FindsNeighbours list node Fails = links_count list node ≡ false
 FindsNeighbours list node (Counts neighbours) = (links_count list node ≡ true) × AreBeside (list.next node) (list.prev node) neighbours
 
--- and the one is the node in flight
+-- the answer for the nodes beside the node in flight, which are found where its links may be used
 abbrev pub FindsNeighboursInFlight : BlockFiles → Usable (Option Neighbours) → Image → Type 0
 FindsNeighboursInFlight files found image = FindsNeighbours (list_among files image) (list_among files image).transaction found
 

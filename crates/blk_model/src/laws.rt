@@ -10,6 +10,7 @@ use crate::Command;
 fn are_bytes(slice: &[u8])
     ensures { IsBytes slice.now }
 {
+    // A call of the length lets the prover know the slice, and so that its elements are bytes.
     let _len = slice.len();
 }
 

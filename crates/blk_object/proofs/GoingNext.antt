@@ -189,7 +189,7 @@ main-going state layout unlinked number object node entry before from image k at
 main-going state layout unlinked number object node entry before from image k at live p (inr (inr f)) =
     inr (freed-finds state layout (λ item. true) layout.chains unlinked (main object.key) entry number object at (main-leaves object.key) image f)
 
--- while a part does
+-- while a part is removed
 pub part-going : (state : State) (layout : Layout) (keep : Item → Bool) (chains : ℕ → List ℕ) (unlinked : List ℕ) (number : ℕ) (object : Object) (n : ℕ) (node entry : ℕ) (before : Option ℕ) (from image : Image) → KeepsPartlyOut state layout keep chains unlinked from → object_at state number ≡ Some object → LeavesOtherKeys object.key keep
     → LiesNext state layout keep chains (part object.key n) node entry before → IsGoingNext node entry before (IsBeingFreed state layout keep chains unlinked (part object.key n) entry) from image → Finds (rest (doomed number state (Some object))) image
 part-going state layout keep chains unlinked number object n node entry before from image k at others p (inl is) =

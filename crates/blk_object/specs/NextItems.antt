@@ -27,7 +27,7 @@ pub record LiesNext (state : State) (layout : Layout) (keep : Item → Bool) (ch
   pub node_is : layout.place item ≡ node
   pub entry_is : was.contents ≡ entry
 
--- an item of a state of which those that aren't in `keep` are out, with the layout, the chains and the unlinked addresses with which the folder keeps it so
+-- an item of a state whose items outside of `keep` are removed, with the layout, the chains and the unlinked addresses with which the folder keeps it so
 pub record NextItem : Type 0 where
   pub state : State
   pub layout : Layout
@@ -88,6 +88,6 @@ pub record IsBeingFreed (state : State) (layout : Layout) (keep : Item → Bool)
   pub out : KeepsPartlyOut state layout (keeps_but keep item) (chains_but chains entry) (words ++ unlinked) mid
   pub going : AreGoing words mid image
 
--- nothing has changed, or the item is leaving list and chain, or it is out and its addresses are being freed, as `being_freed` says
+-- nothing has changed, or the item is leaving list and chain, or it is removed and its addresses are being freed, as `being_freed` says
 abbrev pub IsGoingNext : (node entry : ℕ) (before : Option ℕ) → (being_freed : Image → Type 0) → (from image : Image) → Type 0
 IsGoingNext node entry before being_freed from image = (image ≡ from) ⊎ (IsGoingOut node entry before from image ⊎ being_freed image)

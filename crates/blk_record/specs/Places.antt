@@ -9,7 +9,7 @@ abbrev pub HasIndexFields : (f : ℕ → ℕ) → (version last_file table_len c
 HasIndexFields f version last_file table_len create_time =
     (version_of f ≡ word_at f version) × (last_file_of f ≡ word_at f last_file) × (table_len_of f ≡ word_at f table_len) × (create_time_of f ≡ long_at f create_time)
 
--- in the header of an index: how many entries and bytes it counts, the bytes in 4 bytes and in 8, and how many entries are in the LRU list
+-- in the header of an index: how many items it counts, how many bytes, as a word of 4 bytes and as one of 8, and how many nodes are in the LRU list
 abbrev pub HasIndexCounters : (f : ℕ → ℕ) → (num_entries num_bytes num_bytes64 sizes : ℕ) → Type 0
 HasIndexCounters f num_entries num_bytes num_bytes64 sizes =
     (num_entries_of f ≡ word_at f num_entries) × (num_bytes_of f ≡ word_at f num_bytes) × (num_bytes64_of f ≡ long_at f num_bytes64) × (sizes_of f 0 ≡ word_at f sizes)
@@ -36,6 +36,6 @@ HasStreamWords f at data_size data_addr = ((entry_in f at).data_size ≡ words_a
 abbrev pub HasMoments : (f : ℕ → ℕ) → (at last_used last_modified : ℕ) → Type 0
 HasMoments f at last_used last_modified = ((node_in f at).last_used ≡ long_at f (at + last_used)) × ((node_in f at).last_modified ≡ long_at f (at + last_modified))
 
--- in the node that begins at `at`: the address of its entry's record, and whether the entry is in use
+-- in the node that begins at `at`: the address of its entry's record, and its dirty flag
 abbrev pub HasEntryWords : (f : ℕ → ℕ) → (at contents dirty : ℕ) → Type 0
 HasEntryWords f at contents dirty = ((node_in f at).contents ≡ word_at f (at + contents)) × ((node_in f at).dirty ≡ word_at f (at + dirty))

@@ -51,15 +51,15 @@ AreBareNodes lists keep words = (image : Image) → AreListsOf image lists → w
 abbrev pub AddsBareNode : Lists → (i : ℕ) → (keep : ℕ → Bool) → (old new : List ℕ) → Type 0
 AddsBareNode lists i keep old new = (image : Image) (w : ℕ) → AreListsOf image lists → slice_get (nodes_walked lists.walked) i ≡ Some w → new ≡ old ++ filter (is_kept_bare_node keep image) (w ∷ [])
 
--- those of the records whose checksum is absent were added, if they are valid by the table
+-- if the records are valid by the table, those whose checksum is absent were added
 abbrev pub AddsBareRecords : BlockFiles → Lists → (entries old new : List ℕ) → Image → Type 0
 AddsBareRecords files lists entries old new image = AreListsOf image lists → RecordsStand files entries → new ≡ old ++ filter (is_bare_record image) entries
 
--- and so of one record
+-- if the record is valid by the table, it was added where its checksum is absent
 abbrev pub AddsBareRecord : BlockFiles → Lists → (entry : ℕ) → (old new : List ℕ) → Image → Type 0
 AddsBareRecord files lists entry old new image = AreListsOf image lists → is_record_among files entry ≡ true → new ≡ old ++ filter (is_bare_record image) (entry ∷ [])
 
--- a bucket with so many records was added as whole if it was closed and all its records are kept
+-- whether a bucket with so many records is whole was added: it is if it was closed and all its records are kept
 abbrev pub AddsWhole : (closed : Bool) → (count : ℕ) → (old new : KeptChains) → Type 0
 AddsWhole closed count old new = new.whole.items ≡ old.whole.items ++ (closed && (length new.records.items == length old.records.items + count)) ∷ []
 

@@ -56,11 +56,11 @@ abbrev pub digits_say : ℕ → List ℕ → ℕ
 digits_say before [] = before
 digits_say before (digit ∷ digits) = digits_say (before * 10 + (digit - 48)) digits
 
--- where all bytes of a field are decimal digits, their number is 2^64 or more
+-- where all bytes of a field are decimal digits, the number that they say is 2^64 or more
 abbrev pub IsTooGreat : List ℕ → Type 0
 IsTooGreat field = list_all is_decimal_digit field ≡ true → 2 ^ 64 ≤ digits_say 0 field
 
--- all bytes of a field are decimal digits, and n is their number
+-- all bytes of a field are decimal digits, and n is the number that they say
 abbrev pub IsNumberOf : List ℕ → ℕ → Type 0
 IsNumberOf field n = (list_all is_decimal_digit field ≡ true) × (digits_say 0 field ≡ n)
 

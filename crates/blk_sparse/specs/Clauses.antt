@@ -402,7 +402,7 @@ BeginsLeftOfIt E call old new from = λ state layout keep unlinked number object
 abbrev pub PartOut : (now : Told) → (key : List ℕ) → (n : ℕ) → (from : Image) → LeftClause
 PartOut now key n from = λ state layout keep unlinked number object. ForSome now.files (IsPartDropped state layout keep unlinked key number object n)
 
--- the next part of the object after `node` is out too, or there is none
+-- the next part of the object after `node` is removed too, or there is none
 abbrev pub DropsNext : (old new : Told) → (key : List ℕ) → (signature : ℤ) → (node : Option ℕ) → (next : Option Dropped) → Type 0
 DropsNext old new key signature node next =
     ForSome old.files (λ from. ForEachBehind key (cast_unsigned w64 signature) node from (λ state layout keep unlinked number object is.
@@ -465,7 +465,7 @@ IsKeyAt entry bytes = λ image. (key : List ℕ) → HasParentKey entry key imag
 abbrev pub HasSomeKey : (entry : ℕ) → Image → Type 0
 HasSomeKey entry = λ image. (key : List ℕ) × HasParentKey entry key image
 
--- a folder that tells what it is, where the record at address `entry` has a key and is a parent's, reports no corruption
+-- where the table is that of an observable folder, and the record at address `entry` has a key and is a parent's, the answer is no failed check
 abbrev pub UndamagedParent : {A : Type 0} → Result A Fault → Told → BlockFiles → (entry : ℕ) → Type 0
 UndamagedParent result told files entry = ForSome told.files (Agrees files) → ForSome told.files (HasSomeKey entry) → ForSome told.files (LoadsAsParent entry) → OpaqueIfDamaged result told
 
@@ -519,11 +519,11 @@ DurableStore now told target write from = λ state layout number object. Recover
 abbrev pub WhereSpace : (n : ℕ) → (old new : Told) → (P : Image → Image → Type 0) → Type 0
 WhereSpace n old new P = ForSome old.files (λ from. LeavesRoom n from → ForSome new.files (P from))
 
--- the address is that of a record of so many blocks, and stands in the files
+-- the address is that of a record of so many blocks, and is valid by the table
 abbrev pub IsEntryPlace : BlockFiles → (blocks entry : ℕ) → Type 0
 IsEntryPlace files blocks entry = (kind_of entry ≡ blocks_256) × (block_count entry ≡ blocks) × IsTrue (is_address entry) × IsTrue (stands_among files entry)
 
--- the address is that of a node, and stands in the files
+-- the address is that of a node, and is valid by the table
 abbrev pub IsNodePlace : BlockFiles → (node : ℕ) → Type 0
 IsNodePlace files node = (kind_of node ≡ rankings) × IsTrue (is_address node) × IsTrue (stands_among files node)
 

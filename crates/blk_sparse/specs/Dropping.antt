@@ -115,7 +115,7 @@ pub record IsNextOut (state : State) (layout : Layout) (keep : Item → Bool) (u
   pub chains : ℕ → List ℕ
   pub left : AreLeft state layout (keeps_but keep (part key dropped.number)) chains unlinked key number object image
 
--- a removal of the next part: it is out, as `is_out` says, or None where none of the items is a part of the key, and nothing has changed
+-- the outcome of a removal of the next part: it is removed, as `is_out` says; or None, where none of the items is a part of the key, and nothing has changed
 abbrev pub IsDropOfNext : (key : List ℕ) (items : List Item) (is_out : Dropped → Image → Type 0) (next : Option Dropped) (from image : Image) → Type 0
 IsDropOfNext key items is_out None from image = HaveNoPart key items × (image ≡ from)
 IsDropOfNext key items is_out (Some dropped) from image = is_out dropped image

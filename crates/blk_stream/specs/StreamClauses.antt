@@ -45,7 +45,7 @@ HasRecordSeal entry image = entry_is_sealed (entry_at image entry) ≡ true
 abbrev pub LeavesRead : (old new : Told) → List ℕ → (entry : ℕ) → (Image → Image → Type 0) → Type 0
 LeavesRead old new bytes entry P = ForSome old.files (λ from. bytes ≡ record_at from entry → ForSome new.files (P from))
 
--- and the record's checksum matches or is absent
+-- where the bytes are the record's and its checksum matches or is absent, the folder that a call leaves is in relation P to the one before it
 abbrev pub LeavesChecked : (old new : Told) → List ℕ → (entry : ℕ) → (Image → Image → Type 0) → Type 0
 LeavesChecked old new bytes entry P = ForSome old.files (λ from. bytes ≡ record_at from entry → RecordChecks entry from → ForSome new.files (P from))
 
@@ -54,10 +54,11 @@ LeavesChecked old new bytes entry P = ForSome old.files (λ from. bytes ≡ reco
 abbrev pub StopsChecked : (old new : Told) → List ℕ → (entry : ℕ) → (Image → Image → Type 0) → Type 0
 StopsChecked old new bytes entry P = ForSome old.files (λ from. bytes ≡ record_at from entry → RecordChecks entry from → Passes old new (P from))
 
--- both of these where word w isn't 0
+-- `LeavesChecked`, where word w isn't 0
 abbrev pub LeavesSomePlace : (old new : Told) → List ℕ → (entry w : ℕ) → (Image → Image → Type 0) → Type 0
 LeavesSomePlace old new bytes entry w P = ForSome old.files (λ from. bytes ≡ record_at from entry → RecordChecks entry from → w ≢ 0 → ForSome new.files (P from))
 
+-- `StopsChecked`, where word w isn't 0
 abbrev pub StopsSomePlace : (old new : Told) → List ℕ → (entry w : ℕ) → (Image → Image → Type 0) → Type 0
 StopsSomePlace old new bytes entry w P = ForSome old.files (λ from. bytes ≡ record_at from entry → RecordChecks entry from → w ≢ 0 → Passes old new (P from))
 
@@ -65,10 +66,11 @@ StopsSomePlace old new bytes entry w P = ForSome old.files (λ from. bytes ≡ r
 abbrev pub UndamagedChecked : {A : Type 0} → Result A Fault → Told → List ℕ → (entry : ℕ) → (Image → Type 0) → Type 0
 UndamagedChecked result told bytes entry P = ForSome told.files (λ from. bytes ≡ record_at from entry × RecordChecks entry from × P from) → OpaqueIfDamaged result told
 
--- stream i's words in the bytes of a record: its size here, and its address below
+-- the size of stream i in the bytes of a record
 abbrev pub size_in : List ℕ → ℕ → ℕ
 size_in bytes i = word_at (content bytes) (size_place i)
 
+-- the address of stream i in the bytes of a record
 abbrev pub address_in : List ℕ → ℕ → ℕ
 address_in bytes i = word_at (content bytes) (address_place i)
 
@@ -94,7 +96,7 @@ IsFilledAt files kept w from image = IsFilled files kept (Some w) from image
 abbrev pub FillsFor : BlockFiles → Stored → (size offset : ℕ) → List ℕ → Option ℕ → (from image : Image) → Type 0
 FillsFor files old size offset bytes place from image = IsPlaceFilled files old (unwrap_or place 0) size offset bytes from image
 
--- if the new place shares no data with the old one, and has none, it is filled with the stream after the write
+-- if the new place shares no data with the old one, and is empty where it is an external file, it gets the data of the stream after the write
 abbrev pub LeavesFilled : (old new : Told) → Stored → (w size offset : ℕ) → List ℕ → Type 0
 LeavesFilled old new stored w size offset bytes =
     ForSome old.files (λ from. ShareNoData (unwrap_or stored.addr 0) w → HasStreamLength w 0 from → ForSome new.files (FillsPlace (unwrap_or stored.addr 0) w stored.size size offset bytes from))

@@ -285,7 +285,7 @@ abbrev pub TriesPass : Told → BlockFiles → Lists → (children : Bool) → (
 TriesPass told files lists children old new =
     WhereRead told files lists (λ image. (before : List ℕ) → AreTried image (nodes_walked lists.walked) before old.kept.kept.items old.tried.items → AreTried image (nodes_walked lists.walked) (before ++ of_pass (store_of image) children (nodes_walked lists.walked)) new.kept.kept.items new.tried.items)
 
--- where the table and the lists are those of the image, the nodes of the pass before walked node i were tried, and node i if it is of the pass
+-- where the table and the lists are those of the image, walked node i, if it is of the pass, was tried after the nodes that were tried before
 abbrev pub TriesAt : Told → BlockFiles → Lists → (i : ℕ) → (children : Bool) → (old new : Judged) → Type 0
 TriesAt told files lists i children old new =
     WhereRead told files lists (λ image. (before : List ℕ) (w : ℕ) → slice_get (nodes_walked lists.walked) i ≡ Some w → AreTried image (nodes_walked lists.walked) before old.kept.kept.items old.tried.items → AreTried image (nodes_walked lists.walked) (before ++ of_pass (store_of image) children (w ∷ [])) new.kept.kept.items new.tried.items)

@@ -29,7 +29,7 @@ ReadsOnePage old new file place most n = ReadsPage (places_of old) (file_of file
 abbrev pub ReadsInPages : (old new : Pages) → FileId → (place n : ℕ) → Type 0
 ReadsInPages old new file place n = ReadsThrough (places_of old) (file_of file) place n (held_of old) (held_of new)
 
--- and it failed at a page that wasn't held, after some full ones
+-- a read of n bytes from `place` on failed at a page that wasn't held, after it accessed some full ones
 abbrev pub FailsInPages : (old new : Pages) → FileId → (place n : ℕ) → Type 0
 FailsInPages old new file place n = FailsBehind (places_of old) (file_of file) place n (held_of old) (held_of new)
 

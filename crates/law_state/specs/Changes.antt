@@ -31,7 +31,7 @@ FindsFinished rows image = IsWellFormed image × (found image ≡ rows)
 abbrev pub HeldIsFound : Type 0
 HeldIsFound = (rows : List Row) (image : Image) → Finds rows image → magic_of (byte image Index) ≡ index_magic → FindsFinished rows image
 
--- at each of some steps that a command may make this is so, if the index is initialized before the first
+-- along steps that a command may make, what is held at each is recovered there, if the index is initialized before the first
 abbrev pub HeldIsFoundAlong : Type 0
 HeldIsFoundAlong = (rows : List Row) (image : Image) (steps : List TrailStep) → IsQuiet steps → magic_of (byte image Index) ≡ index_magic
     → Along (Finds rows) image steps → Along (FindsFinished rows) image steps

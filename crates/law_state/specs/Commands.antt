@@ -29,7 +29,7 @@ pub record MayStopFinished (state : State) (moment : ℕ) (request : Request) (i
 abbrev pub FinishedFoldersMayStop : Type 0
 FinishedFoldersMayStop = (state : State) (moment : ℕ) (request : Request) (image : Image) → MayStop state moment request image → magic_of (byte image Index) ≡ index_magic → MayStopFinished state moment request image
 
--- at each of some steps that a command may make this is so, if the index is initialized before the first
+-- where a request may crash at each of some steps, a crash outcome of it is recovered at each, if the index is initialized before the first
 abbrev pub FinishedFoldersMayStopAlong : Type 0
 FinishedFoldersMayStopAlong =
     (state : State) (moment : ℕ) (request : Request) (image : Image) (steps : List TrailStep) → IsQuiet steps → magic_of (byte image Index) ≡ index_magic

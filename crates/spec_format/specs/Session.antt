@@ -17,10 +17,10 @@ pub record KeepsSessionWords (from image : Image) : Type 0 where
   pub id : this_id_of (byte image Index) ≡ this_id_of (byte from Index)
   pub crash : crash_of (byte image Index) ≡ crash_of (byte from Index)
 
--- at each of some steps that a command may make, these words of the index are as before
+-- at each of some steps that a command may make, magic word, version, number of the session and crash word are as before
 abbrev pub QuietStepsKeepSessionWords : Type 0
 QuietStepsKeepSessionWords = (steps : List TrailStep) (image : Image) → IsQuiet steps → Along (KeepsSessionWords image) image steps
 
--- after a call that makes such steps, these words are as before
+-- after a call that makes steps that a command may make, magic word, version, number of the session and crash word are as before
 abbrev pub CommandsKeepSessionWords : Type 0
 CommandsKeepSessionWords = (old new : Told) (steps : List TrailStep) → IsQuiet steps → Applies old new steps → ForSome old.files (λ from. ForSome new.files (KeepsSessionWords from))
