@@ -11,7 +11,7 @@ use Rattle.spec_format.specs.Address.{is_address, kind_of, external_number, exte
 use Rattle.spec_format.specs.Claims.{Claim, BlockOf, ExternalOf, claims_of, claims_of_all, has_claim, overlap, repeats, is_in_file}
 use Rattle.blk_addr.specs.Bits.{has_bit}
 use Rattle.blk_addr.specs.Claims.{contains_claim, allocations_in, is_claimed, IsUnchanged, Adds, IsClaimsOf}
-use Rattle.blk_addr.specs.ClaimGroups.{AddsAll, are_free}
+use Rattle.blk_addr.specs.ClaimGroups.{AddsAll, are_claimable}
 use Rattle.blk_addr.specs.declared.claim_set.Claims.{Claims}
 use Rattle.blk_addr.proofs.AddressFields.{address_above_0}
 use Rattle.blk_addr.proofs.ClaimLemmas.{claims_of-external, first_apart, has_claim-append, is_in_file-external, list_any-same, nothing_more, or_comm, or_false, or_parts, repeats-append, rest_apart}
@@ -48,15 +48,15 @@ not_true true e = absurd cc
 not_true false e = refl
 
 -- no two use the same, and none of it is in the set
-pub free_parts : (claims : Claims) (words : List ℕ) → are_free claims words ≡ true → (repeats (claims_of_all words) ≡ false) × (list_any (contains_claim claims) (claims_of_all words) ≡ false)
-unfolding are_free
+pub free_parts : (claims : Claims) (words : List ℕ) → are_claimable claims words ≡ true → (repeats (claims_of_all words) ≡ false) × (list_any (contains_claim claims) (claims_of_all words) ≡ false)
+unfolding are_claimable
 free_parts claims words free = or_parts (repeats (claims_of_all words)) (list_any (contains_claim claims) (claims_of_all words)) (not_true _ free)
 
-from_parts : (claims : Claims) (words : List ℕ) → repeats (claims_of_all words) ≡ false → list_any (contains_claim claims) (claims_of_all words) ≡ false → are_free claims words ≡ true
-unfolding are_free
+from_parts : (claims : Claims) (words : List ℕ) → repeats (claims_of_all words) ≡ false → list_any (contains_claim claims) (claims_of_all words) ≡ false → are_claimable claims words ≡ true
+unfolding are_claimable
 from_parts claims words once none = ap₂ (λ (a b : Bool). not (a || b)) once none
 
-pub first_free : (claims : Claims) (w : ℕ) (words : List ℕ) → are_free claims (w ∷ words) ≡ true → IsFirstFree claims w words
+pub first_free : (claims : Claims) (w : ℕ) (words : List ℕ) → are_claimable claims (w ∷ words) ≡ true → IsFirstFree claims w words
 unfolding is_claimed
 first_free claims w words free =
     let parts = free_parts claims (w ∷ words) free in
@@ -65,7 +65,7 @@ first_free claims w words free =
     record { first = none.0; once = once.0; others = none.1; apart = once.1 }
 
 -- the others are free once the first has joined the set
-pub others_free : (old new : Claims) (w : ℕ) (words : List ℕ) → IsFirstFree old w words → Adds old new w → are_free new words ≡ true
+pub others_free : (old new : Claims) (w : ℕ) (words : List ℕ) → IsFirstFree old w words → Adds old new w → are_claimable new words ≡ true
 others_free old new w words free adds =
     from_parts new words free.once
     (list_any-same (contains_claim new) (λ c. has_claim (claims_of w) c || contains_claim old c) adds.claims (claims_of_all words)
@@ -73,7 +73,7 @@ others_free old new w words free adds =
     ∙ ap₂ (λ (a b : Bool). a || b) (apart_back (claims_of_all words) (claims_of w) free.apart) free.others)
 
 -- the others are free where the set is the same
-pub still_free : (old new : Claims) (w : ℕ) (words : List ℕ) → IsFirstFree old w words → IsUnchanged old new → are_free new words ≡ true
+pub still_free : (old new : Claims) (w : ℕ) (words : List ℕ) → IsFirstFree old w words → IsUnchanged old new → are_claimable new words ≡ true
 still_free old new w words free same = from_parts new words free.once (list_any-same (contains_claim new) (contains_claim old) same.claims (claims_of_all words) ∙ free.others)
 
 -- the first is free once the others have joined the set
@@ -187,12 +187,12 @@ taken_back old mid late new w address kind absent adds same blocks counts number
 -- What is owned then.
 
 -- whether addresses are free, by the list of added ones
-pub free-overlap : (owned : Claims) (words addrs : List ℕ) → IsClaimsOf owned words → are_free owned addrs ≡ not (repeats (claims_of_all addrs) || overlap (claims_of_all words) (claims_of_all addrs))
-unfolding are_free overlap
+pub free-overlap : (owned : Claims) (words addrs : List ℕ) → IsClaimsOf owned words → are_claimable owned addrs ≡ not (repeats (claims_of_all addrs) || overlap (claims_of_all words) (claims_of_all addrs))
+unfolding are_claimable overlap
 free-overlap owned words addrs is = ap (λ (t : Bool). not (repeats (claims_of_all addrs) || t)) (list_any-same (contains_claim owned) (has_claim (claims_of_all words)) is.claims (claims_of_all addrs))
 
 -- addresses that join the set join the list
-pub is_of_all : (old new : Claims) (words addrs : List ℕ) → are_free old addrs ≡ true → AddsAll old new addrs → IsClaimsOf old words → IsClaimsOf new (words ++ addrs)
+pub is_of_all : (old new : Claims) (words addrs : List ℕ) → are_claimable old addrs ≡ true → AddsAll old new addrs → IsClaimsOf old words → IsClaimsOf new (words ++ addrs)
 is_of_all old new words addrs free adds is =
     let parts = free_parts old addrs free in
     let all = flat_map-append claims_of words addrs in
@@ -215,12 +215,12 @@ any_claimed claims [] = refl
 any_claimed claims (w ∷ words) = ap (λ (t : Bool). list_any (contains_claim claims) (claims_of w) || t) (any_claimed claims words) ∙ sym (list_any-append (contains_claim claims) (claims_of w) (claims_of_all words))
 
 -- the two tests of freedom
-pub free_by : (claims : Claims) (words : List ℕ) (meet any : Bool) → meet ≡ repeats (claims_of_all words) → any ≡ list_any (is_claimed claims) words → not (meet || any) ≡ are_free claims words
-unfolding are_free
+pub free_by : (claims : Claims) (words : List ℕ) (meet any : Bool) → meet ≡ repeats (claims_of_all words) → any ≡ list_any (is_claimed claims) words → not (meet || any) ≡ are_claimable claims words
+unfolding are_claimable
 free_by claims words meet any once none = ap₂ (λ (a b : Bool). not (a || b)) once (none ∙ any_claimed claims words)
 
 -- addresses that repeat nothing after the added ones are free
-pub free-behind : (owned : Claims) (words addrs : List ℕ) → IsClaimsOf owned words → repeats (claims_of_all (words ++ addrs)) ≡ false → are_free owned addrs ≡ true
+pub free-behind : (owned : Claims) (words addrs : List ℕ) → IsClaimsOf owned words → repeats (claims_of_all (words ++ addrs)) ≡ false → are_claimable owned addrs ≡ true
 free-behind owned words addrs is once =
     let parts = once_parts (claims_of_all words) (claims_of_all addrs) (sym (ap repeats (flat_map-append claims_of words addrs)) ∙ once) in
     from_parts owned addrs parts.0 (list_any-same (contains_claim owned) (has_claim (claims_of_all words)) is.claims (claims_of_all addrs) ∙ apart_back (claims_of_all addrs) (claims_of_all words) parts.1)

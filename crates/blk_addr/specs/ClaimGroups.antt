@@ -6,8 +6,8 @@ use Rattle.blk_addr.specs.Claims.{contains_claim, allocations_in}
 use Rattle.blk_addr.specs.declared.claim_set.Claims.{Claims}
 
 -- the addresses may be added: no two of them have the same block or file, and none has one that is used already
-unfoldable pub are_free : Claims → List ℕ → Bool
-are_free claims words = not (repeats (claims_of_all words) || list_any (contains_claim claims) (claims_of_all words))
+unfoldable pub are_claimable : Claims → List ℕ → Bool
+are_claimable claims words = not (repeats (claims_of_all words) || list_any (contains_claim claims) (claims_of_all words))
 
 -- the addresses may be added to others: no two of them have the same block or file, and none has one that the others have
 abbrev pub are_apart_from : (words more : List ℕ) → Bool

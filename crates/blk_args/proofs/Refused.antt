@@ -8,7 +8,7 @@ use Rattle.std.specs.Borrow.{Bor}
 use Rattle.blk_args.specs.declared.kinds.Limit.{Limit}
 use Rattle.blk_args.specs.declared.kinds.Limit.TheVariants as limit
 use Rattle.blk_args.specs.declared.apart.Apart.{Apart}
-use Rattle.blk_args.specs.Apart.{Parts, joined, parts_in, value_in, with_option}
+use Rattle.blk_args.specs.Apart.{Parts, joined, parts_read, value_in, with_option}
 use Rattle.blk_args.specs.Tasks.{Task, verb_of_word, first_words, task_of, task_in}
 use Rattle.blk_args.specs.Words.{allowed, asked_by, at_most_once, limits_in}
 
@@ -61,12 +61,12 @@ too_many parts many =
     and_none (λ (limits : Bounds). option_and_then (λ (task : Task). Some (record { task = task; limits = limits })) (task_in parts.ordinary)) (limits_in parts) (λ limits. ap (option_and_then (λ (task : Task). Some (record { task = task; limits = limits }))) (four_words parts.ordinary many))
 
 -- an option that has a value is set again
-pub max_again : (a : Apart) (l : Limit) (old : Bor (List ℕ)) (value : List ℕ) (behind : Parts) → l ≡ limit.Bytes → a.max ≡ Some old → asked_by (joined (parts_in a) (with_option l value behind)) ≡ None
+pub max_again : (a : Apart) (l : Limit) (old : Bor (List ℕ)) (value : List ℕ) (behind : Parts) → l ≡ limit.Bytes → a.max ≡ Some old → asked_by (joined (parts_read a) (with_option l value behind)) ≡ None
 max_again a l old value behind is has =
-    ap (λ (x : Limit). asked_by (joined (parts_in a) (with_option x value behind))) is
-    ∙ twice_max (joined (parts_in a) (with_option limit.Bytes value behind)) old.now value behind.maxes (ap (λ (m : Option (Bor (List ℕ))). value_in m ++ (value ∷ behind.maxes)) has)
+    ap (λ (x : Limit). asked_by (joined (parts_read a) (with_option x value behind))) is
+    ∙ twice_max (joined (parts_read a) (with_option limit.Bytes value behind)) old.now value behind.maxes (ap (λ (m : Option (Bor (List ℕ))). value_in m ++ (value ∷ behind.maxes)) has)
 
-pub items_again : (a : Apart) (l : Limit) (old : Bor (List ℕ)) (value : List ℕ) (behind : Parts) → l ≡ limit.Items → a.items ≡ Some old → asked_by (joined (parts_in a) (with_option l value behind)) ≡ None
+pub items_again : (a : Apart) (l : Limit) (old : Bor (List ℕ)) (value : List ℕ) (behind : Parts) → l ≡ limit.Items → a.items ≡ Some old → asked_by (joined (parts_read a) (with_option l value behind)) ≡ None
 items_again a l old value behind is has =
-    ap (λ (x : Limit). asked_by (joined (parts_in a) (with_option x value behind))) is
-    ∙ twice_items (joined (parts_in a) (with_option limit.Items value behind)) old.now value behind.counts (ap (λ (m : Option (Bor (List ℕ))). value_in m ++ (value ∷ behind.counts)) has)
+    ap (λ (x : Limit). asked_by (joined (parts_read a) (with_option x value behind))) is
+    ∙ twice_items (joined (parts_read a) (with_option limit.Items value behind)) old.now value behind.counts (ap (λ (m : Option (Bor (List ℕ))). value_in m ++ (value ∷ behind.counts)) has)

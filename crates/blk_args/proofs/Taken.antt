@@ -8,8 +8,8 @@ use Rattle.clap.specs.Simple.{built, entered, filled, matches_of, with_index}
 use Rattle.clap.specs.Takes.{default_passes, entered_passes, is_valid, settle_passes, takes, turn_passes, walk_passes}
 use Rattle.blk_args.specs.declared.kinds.Limit.{Limit}
 use Rattle.blk_args.specs.declared.kinds.Limit.TheVariants as limit
-use Rattle.blk_args.specs.Kinds.{Word, ends, names, sets, says, unknown, word_of}
-use Rattle.blk_args.specs.Apart.{Parts, joined, parts_from, taken_apart, with_option, with_word, words_alone}
+use Rattle.blk_args.specs.Kinds.{Word, ends, names, sets, says, unknown, argument_kind}
+use Rattle.blk_args.specs.Apart.{Parts, joined, parts_from, taken_apart, with_option, with_positional, words_alone}
 use Rattle.blk_args.specs.Parsing.{option_rule, program}
 use Rattle.blk_args.specs.Numbers.{number_word}
 use Rattle.blk_args.specs.Words.{at_most_once}
@@ -197,7 +197,7 @@ module _ (word : Text) (rest parts : Parts) (rows : List Row) (pending : Pending
       (step_then value words (asks (all_rows rows pending) l) (stands (all_rows rows pending) (value_of l value) false false) (joined next behind) (value_step l value (all_rows rows pending) plain) (value_passes l value (all_rows rows pending) plain)
       (more behind next (all_rows rows pending) (value_of l value) false are (option_ready l value rows pending parts ready o.first) (subst IsInside (sym whole) inside)))))
 
-  word_met : (words : List Text) (behind : Parts) → Walking words → IsPlain word → taken_apart words ≡ Some behind → rest ≡ with_word word behind → Walks (word ∷ words) (stands rows pending b false) (joined parts rest)
+  word_met : (words : List Text) (behind : Parts) → Walking words → IsPlain word → taken_apart words ≡ Some behind → rest ≡ with_positional word behind → Walks (word ∷ words) (stands rows pending b false) (joined parts rest)
   word_met words behind more plain are same =
       let next : Parts = joined parts (words_alone (word ∷ [])) in
       let whole : joined next behind ≡ joined parts rest = joined_assoc parts (words_alone (word ∷ [])) behind ∙ ap (joined parts) (sym same) in
@@ -225,13 +225,13 @@ module _ (word : Text) (rest parts : Parts) (rows : List Row) (pending : Pending
       let m = mapped (with_option l value) (taken_apart words) rest are in
       set_met words l value m.0 more is m.1 m.2
   by_kind words says more behind is are =
-      let m = mapped (with_word word) (taken_apart words) rest are in
+      let m = mapped (with_positional word) (taken_apart words) rest are in
       word_met words m.0 more is m.1 m.2
   by_kind words unknown more behind is are = none_some are
 
 one_more : (word : Text) (words : List Text) → Walking words → Behind words → Walking (word ∷ words)
 one_more word words more behind rest parts rows pending b are ready inside =
-    by_kind word rest parts rows pending b ready inside words (word_of word) more behind (is_written word) (sym (apart_first word words) ∙ are)
+    by_kind word rest parts rows pending b ready inside words (argument_kind word) more behind (is_written word) (sym (apart_first word words) ∙ are)
 
 nothing_more : Walking []
 unfolding taken_apart

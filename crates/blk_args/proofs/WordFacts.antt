@@ -13,7 +13,7 @@ use Rattle.blk_script.specs.Fields.{begins_number, digits_say, is_decimal_digit,
 use Rattle.blk_script.specs.declared.fault.LineFault.TheVariants as fault
 use Rattle.blk_args.specs.declared.kinds.Limit.{Limit}
 use Rattle.blk_args.specs.declared.kinds.Limit.TheVariants as limit
-use Rattle.blk_args.specs.Kinds.{Word, begins_with, ends, is_dashed, names, sets, says, unknown, word_of}
+use Rattle.blk_args.specs.Kinds.{Word, begins_with, ends, is_dashed, names, sets, says, unknown, argument_kind}
 use Rattle.blk_args.specs.Numbers.{number_word}
 use Rattle.blk_args.proofs.Rows.{pick}
 
@@ -66,8 +66,8 @@ plain_short (x ∷ y ∷ rest) plain = ap (λ b. option_and_then short_of_rest (
 behind_prefix : (word front : List ℕ) (n : ℕ) → bytes_eq (take n word) front ≡ true → word ≡ front ++ drop n word
 behind_prefix word front n same = sym (take-append-drop n word) ∙ ap (λ (l : List ℕ). l ++ drop n word) ((bytes_eq-Decides (take n word) front).0 same)
 
-pub is_written : (word : List ℕ) → IsWritten word (word_of word)
-unfolding word_of
+pub is_written : (word : List ℕ) → IsWritten word (argument_kind word)
+unfolding argument_kind
 is_written word =
     choose word (bytes_eq word (codes "--")) _ _ (bytes_eq-Decides word (codes "--")).0 (λ no_end.
     choose word (bytes_eq word (codes "--max")) _ _ (bytes_eq-Decides word (codes "--max")).0 (λ _.

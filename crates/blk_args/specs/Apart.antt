@@ -7,7 +7,7 @@ use Rattle.blk_args.specs.declared.kinds.Limit.TheVariants as limit
 use Rattle.blk_args.specs.declared.apart.Ordinary.{Ordinary}
 use Rattle.blk_args.specs.declared.apart.Ordinary.TheVariants as ordinary
 use Rattle.blk_args.specs.declared.apart.Apart.{Apart}
-use Rattle.blk_args.specs.Kinds.{Word, ends, names, sets, says, unknown, word_of}
+use Rattle.blk_args.specs.Kinds.{Word, ends, names, sets, says, unknown, argument_kind}
 
 -- the values given to `--max` and to `--items`, and the positional arguments, each in the order of the command line
 pub record Parts : Type 0 where
@@ -21,8 +21,8 @@ with_option limit.Bytes value parts = record { maxes = value ∷ parts.maxes; co
 with_option limit.Items value parts = record { maxes = parts.maxes; counts = value ∷ parts.counts; ordinary = parts.ordinary }
 
 -- the parts with a positional argument in front of its others
-abbrev pub with_word : List ℕ → Parts → Parts
-with_word word parts = record { maxes = parts.maxes; counts = parts.counts; ordinary = word ∷ parts.ordinary }
+abbrev pub with_positional : List ℕ → Parts → Parts
+with_positional word parts = record { maxes = parts.maxes; counts = parts.counts; ordinary = word ∷ parts.ordinary }
 
 -- the parts of positional arguments alone
 abbrev pub words_alone : List (List ℕ) → Parts
@@ -35,14 +35,14 @@ parts_from ends word words behind beyond = Some (words_alone words)
 parts_from (names limit) word [] behind beyond = None
 parts_from (names limit) word (value ∷ words) behind beyond = option_map (with_option limit value) beyond
 parts_from (sets limit value) word words behind beyond = option_map (with_option limit value) behind
-parts_from says word words behind beyond = option_map (with_word word) behind
+parts_from says word words behind beyond = option_map (with_positional word) behind
 parts_from unknown word words behind beyond = None
 
 -- the arguments split, or None where one of them isn't in the grammar
 unfoldable pub taken_apart : List (List ℕ) → Option Parts
 taken_apart [] = Some (words_alone [])
-taken_apart (word ∷ []) = parts_from (word_of word) word [] (Some (words_alone [])) None
-taken_apart (word ∷ next ∷ words) = parts_from (word_of word) word (next ∷ words) (taken_apart (next ∷ words)) (taken_apart words)
+taken_apart (word ∷ []) = parts_from (argument_kind word) word [] (Some (words_alone [])) None
+taken_apart (word ∷ next ∷ words) = parts_from (argument_kind word) word (next ∷ words) (taken_apart (next ∷ words)) (taken_apart words)
 
 -- the positional arguments that the program has collected
 abbrev pub ordinary_words : Ordinary → List (List ℕ)
@@ -55,8 +55,9 @@ ordinary_words (ordinary.Three a b c) = a.now ∷ b.now ∷ c.now ∷ []
 abbrev pub value_in : Option (Bor (List ℕ)) → List (List ℕ)
 value_in value = option_to_list (option_map (λ (v : Bor (List ℕ)). v.now) value)
 
-abbrev pub parts_in : Apart → Parts
-parts_in apart = record { maxes = value_in apart.max; counts = value_in apart.items; ordinary = ordinary_words apart.ordinary }
+-- the values and the positional arguments that the program has collected
+abbrev pub parts_read : Apart → Parts
+parts_read apart = record { maxes = value_in apart.max; counts = value_in apart.items; ordinary = ordinary_words apart.ordinary }
 
 -- the parts of one command line followed by another
 abbrev pub joined : Parts → Parts → Parts

@@ -29,8 +29,8 @@ is_dashed (first ∷ second ∷ rest) = first == 45
 is_dashed _ = false
 
 -- the kind of an argument
-unfoldable pub word_of : List ℕ → Word
-word_of word =
+unfoldable pub argument_kind : List ℕ → Word
+argument_kind word =
     if bytes_eq word (codes "--") then ends
     else if bytes_eq word (codes "--max") then names limit.Bytes
     else if bytes_eq word (codes "--items") then names limit.Items

@@ -20,5 +20,5 @@ abbrev pub is_upper : ℕ → Bool
 is_upper byte = nat_le 65 byte && nat_le byte 90
 
 -- the address word that eight lower-case hexadecimal digits spell, the highest first
-unfoldable pub address_word : List ℕ → Option ℕ
-address_word word = if list_any is_upper word then None else option_map (from_be_bytes w32) (result_ok (decode_sized word 4))
+unfoldable pub hex_address : List ℕ → Option ℕ
+hex_address word = if list_any is_upper word then None else option_map (from_be_bytes w32) (result_ok (decode_sized word 4))

@@ -9,7 +9,7 @@ use Rattle.blk_args.specs.declared.reading.Asked.{Asked}
 use Rattle.blk_args.specs.declared.apart.Apart.{Apart}
 use Rattle.blk_args.specs.declared.apart.Ordinary.{Ordinary}
 use Rattle.blk_args.specs.declared.kinds.Limit.{Limit}
-use Rattle.blk_args.specs.Apart.{Parts, joined, ordinary_words, parts_in, taken_apart, with_option, words_alone}
+use Rattle.blk_args.specs.Apart.{Parts, joined, ordinary_words, parts_read, taken_apart, with_option, words_alone}
 use Rattle.blk_args.specs.Numbers.{number_word}
 use Rattle.blk_args.specs.Tasks.{Task, task_in, task_given}
 
@@ -51,11 +51,11 @@ all_ordinary ordinary words = ordinary_words ordinary ++ argument_bytes words
 
 -- the arguments taken apart, then one with this value of an option, and then others
 abbrev pub and_option : Apart → Limit → List ℕ → Parts → Parts
-and_option apart limit value behind = joined (parts_in apart) (with_option limit value behind)
+and_option apart limit value behind = joined (parts_read apart) (with_option limit value behind)
 
 -- the arguments taken apart, and then these; None where one of these isn't in the grammar
 abbrev pub and_words : Apart → List (List ℕ) → Option Parts
-and_words apart words = option_map (joined (parts_in apart)) (taken_apart words)
+and_words apart words = option_map (joined (parts_read apart)) (taken_apart words)
 
 -- with this value of an option no command line is in the grammar, whatever comes after it
 abbrev pub ExcludesOption : Apart → Limit → List ℕ → Type 0
@@ -63,7 +63,7 @@ ExcludesOption apart limit value = (behind : Parts) → asked_by (and_option apa
 
 -- this value of an option, and nothing else, was added to the arguments taken apart
 abbrev pub AddsOption : Apart → Limit → List ℕ → (more : Apart) → Type 0
-AddsOption apart limit value more = parts_in more ≡ and_option apart limit value (words_alone [])
+AddsOption apart limit value more = parts_read more ≡ and_option apart limit value (words_alone [])
 
 -- with this argument and those behind it the command line isn't in the grammar
 abbrev pub ExcludesWord : Apart → (word : List ℕ) → (behind : List (String Global)) → Type 0

@@ -1,6 +1,6 @@
 // The arguments are taken apart into options and positional arguments.
 ghost use Rattle.std.specs.Prelude.{◌≡◌, ◌≤◌, ◌++◌, [], ◌∷◌, length, MatchOption, IfSome, Some, None};
-ghost use Rattle.blk_args.specs.Apart.{parts_in, taken_apart, ordinary_words};
+ghost use Rattle.blk_args.specs.Apart.{parts_read, taken_apart, ordinary_words};
 ghost use Rattle.blk_args.specs.Words.{AddsOption, ExcludesOption, ExcludesWord, LeavesWords, all_ordinary, argument_bytes, words_ask};
 
 use crate::kinds::{Kind, Limit, kind_of};
@@ -108,7 +108,7 @@ impl<'w> Apart<'w> {
 
 /// The arguments taken apart, if they may be arguments of the grammar.
 pub fn take_apart(words: &[String]) -> Option<Apart<'_>>
-    ensures { MatchOption result (words_ask (argument_bytes words.now) ≡ None) (λ apart. taken_apart (argument_bytes words.now) ≡ Some (parts_in apart)) }
+    ensures { MatchOption result (words_ask (argument_bytes words.now) ≡ None) (λ apart. taken_apart (argument_bytes words.now) ≡ Some (parts_read apart)) }
 {
     let mut apart = Apart {
         max: None,

@@ -1,7 +1,7 @@
 // The arguments are parsed by the crate `clap`, which gives the values of the options and the positional arguments.
 ghost use Rattle.std.specs.Prelude.{◌≡◌, ◌≤◌, IfErr, IfOk, IsSome, Some, length, map, option_map};
 ghost use Rattle.clap.specs.Words.{HasMatchesOf, first_value, found_of, kind_of};
-ghost use Rattle.blk_args.specs.Apart.{parts_in, taken_apart, ordinary_words};
+ghost use Rattle.blk_args.specs.Apart.{parts_read, taken_apart, ordinary_words};
 ghost use Rattle.blk_args.specs.Parsing.{program};
 ghost use Rattle.blk_args.specs.Words.{argument_bytes, words_ask};
 
@@ -59,7 +59,7 @@ fn ordinary_of<'w>(words: &[&'w str]) -> Ordinary<'w>
 /// The arguments taken apart, which are those of the grammar. It fails only when out of memory.
 pub fn take_given<'w>(alloc: Global, words: &'w [String]) -> Result<Apart<'w>, NoMemory>
     requires inside { IsSome (words_ask (argument_bytes words.now)) }
-    ensures { IfOk result (λ apart. taken_apart (argument_bytes words.now) ≡ Some (parts_in apart)) }
+    ensures { IfOk result (λ apart. taken_apart (argument_bytes words.now) ≡ Some (parts_read apart)) }
 {
     let Ok(matches) = parse(alloc, words) else {
         return Err(NoMemory);

@@ -1,6 +1,6 @@
 // What an argument is by itself.
 ghost use Rattle.std.specs.Prelude.{◌≡◌};
-ghost use Rattle.blk_args.specs.Kinds.{is_dashed, kind_word, word_of};
+ghost use Rattle.blk_args.specs.Kinds.{is_dashed, kind_word, argument_kind};
 
 /// What an option limits.
 #[derive(Clone, Copy)]
@@ -27,9 +27,9 @@ pub enum Kind<'w> {
 }
 
 /// What an argument is.
-#[tactic(auto, unfolding(crate::specs::Kinds::word_of))]
+#[tactic(auto, unfolding(crate::specs::Kinds::argument_kind))]
 pub fn kind_of(word: &[u8]) -> Kind<'_>
-    ensures { kind_word result ≡ word_of word.now }
+    ensures { kind_word result ≡ argument_kind word.now }
 {
     if word == b"--".as_slice() {
         Kind::End

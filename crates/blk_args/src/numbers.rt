@@ -1,7 +1,7 @@
 // Numbers and addresses among the arguments.
 ghost use Rattle.std.specs.Prelude.{◌≡◌, ◌≤◌, IfSome};
 ghost use Rattle.std.specs.List.{list_any};
-ghost use Rattle.blk_args.specs.Numbers.{address_word, few_word, is_upper};
+ghost use Rattle.blk_args.specs.Numbers.{hex_address, few_word, is_upper};
 
 use blk_script::read_count;
 use hex::decode_to_slice;
@@ -16,9 +16,9 @@ pub fn read_few(word: &[u8], most: u64) -> Option<u64>
 }
 
 /// The address word that eight lower-case hexadecimal digits spell.
-#[tactic(auto, unfolding(crate::specs::Numbers::address_word))]
+#[tactic(auto, unfolding(crate::specs::Numbers::hex_address))]
 pub fn read_address(word: &[u8]) -> Option<u32>
-    ensures { result ≡ address_word word.now }
+    ensures { result ≡ hex_address word.now }
 {
     if has_upper(word) {
         return None;

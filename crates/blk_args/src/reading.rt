@@ -3,7 +3,7 @@ ghost use Rattle.std.specs.Prelude.{◌≡◌, IfErr, IfOk, IfSome, IsSome, is_s
 ghost use Rattle.std.specs.Option.{option_map};
 ghost use Rattle.blk_args.specs.Tasks.{HasSpelledKey};
 ghost use Rattle.blk_args.specs.Words.{asked_by, at_most_once, argument_bytes, invocation_of, words_ask};
-ghost use Rattle.blk_args.specs.Apart.{parts_in, value_in};
+ghost use Rattle.blk_args.specs.Apart.{parts_read, value_in};
 
 use crate::apart::{Apart, take_apart};
 use crate::given::take_given;
@@ -57,7 +57,7 @@ fn are_inside(words: &[String]) -> bool
 
 // What the arguments ask for, taken apart.
 fn read_apart<'w>(apart: Apart<'w>) -> Option<Asked<'w>>
-    ensures asks { option_map invocation_of result ≡ asked_by (parts_in apart.entry) }
+    ensures asks { option_map invocation_of result ≡ asked_by (parts_read apart.entry) }
     ensures spelled { IfSome result (λ asked. HasSpelledKey asked.order) }
 {
     let max_bytes = number_or(apart.max, DEFAULT_LIMITS.max_bytes)?;

@@ -15,7 +15,7 @@ use Rattle.spec_image.proofs.Images.{bytes-written, bytes_of-written, with_file-
 use Rattle.spec_image.proofs.Runs.{until-append, until_both, until_weaker2}
 use Rattle.spec_image.proofs.Splices.{content-spliced_inside, content-spliced_outside, content-zeros, length-spliced, length-zeros}
 use Rattle.spec_format.specs.Headers.{entry_size_of}
-use Rattle.blk_eraser.specs.Erasing.{frees, zeros_over_block, zeros_over_blocks, zeros_before_write, write_steps}
+use Rattle.blk_eraser.specs.Erasing.{frees, zeros_over_block, zeros_over_blocks, zeros_before_write, erasing_write_steps}
 use Rattle.blk_eraser.specs.Laws.{AreFreedBlank, CutBytesAreBlank, FreedBlocksAreBlank, IsBlank, OnlyFreedBlocksChange, freed_bytes}
 use Rattle.blk_eraser.proofs.MapWrites.{is_one}
 
@@ -80,7 +80,7 @@ block_within n size long b which passes =
 
 pub only_freed : OnlyFreedBlocksChange
 only_freed image n place new =
-    outside_steps F (write_steps image (Block n) place new) image image
+    outside_steps F (erasing_write_steps image (Block n) place new) image image
     (within_append F (zeros_before_write image (Block n) place new) (words (Block n) place new)
     (zeros_within F (frees (bytes_of image (Block n)) place new) (Block n) size long 64896
     (λ b below freed. within_trans (touched_by_all (zeros_over_block (Block n) size long b)) (freed_bytes image n place new) F

@@ -44,8 +44,8 @@ zeros_before_write image (Block n) place new = zeros_over_blocks (frees (bytes_o
 zeros_before_write image (External n) place new = []
 
 -- the steps of a write into a file: the zeros over what it frees, and then the bytes
-abbrev pub write_steps : Image → File → ℕ → List ℕ → List TrailStep
-write_steps image file place new = zeros_before_write image file place new ++ words file place new
+abbrev pub erasing_write_steps : Image → File → ℕ → List ℕ → List TrailStep
+erasing_write_steps image file place new = zeros_before_write image file place new ++ words file place new
 
 -- the steps of a change of a file's length: the zeros over what it cuts off, and then the new length
 abbrev pub length_steps : Image → File → ℕ → List TrailStep
@@ -57,11 +57,11 @@ delete_steps image file = words file 0 (zeros (length_of image file)) ++ (Delete
 
 -- exactly the steps of a write to a file were made, in an observable folder
 abbrev pub WritesErasing : (old new : Told) → File → ℕ → List ℕ → Type 0
-WritesErasing old new file place bytes = MakesSteps old new (λ image. write_steps image file place bytes)
+WritesErasing old new file place bytes = MakesSteps old new (λ image. erasing_write_steps image file place bytes)
 
 -- a prefix of the steps of a write to a file was made, in an observable folder
 abbrev pub WritesErasingPrefix : (old new : Told) → File → ℕ → List ℕ → Type 0
-WritesErasingPrefix old new file place bytes = MakesPartOf old new (λ image. write_steps image file place bytes)
+WritesErasingPrefix old new file place bytes = MakesPartOf old new (λ image. erasing_write_steps image file place bytes)
 
 -- exactly the steps of a change of a file's length were made, in an observable folder
 abbrev pub CutsErasing : (old new : Told) → File → ℕ → Type 0

@@ -16,7 +16,7 @@ use Rattle.spec_folder.specs.Layout.{Layout, Represents}
 use Rattle.spec_folder.specs.View.{view_of}
 use Rattle.law_state.specs.Changes.{KeepsWith, SameCounters, StillFinds}
 use Rattle.blk_alloc.specs.Owning.{FreesInProgress, IsFreed}
-use Rattle.blk_eraser.specs.Erasing.{delete_steps, frees, length_steps, place_of_block, write_steps, zeros_before_write}
+use Rattle.blk_eraser.specs.Erasing.{delete_steps, frees, length_steps, place_of_block, erasing_write_steps, zeros_before_write}
 
 -- each byte of block b is 0, in a file whose blocks have so many bytes
 abbrev pub IsBlank : Image → ℕ → ℕ → ℕ → Type 0
@@ -29,7 +29,7 @@ AreFreedBlank n from image = (b : ℕ) → b < most_blocks → is_block_marked f
 -- before each step of a write inside a header, and after the last, each block that was marked and isn't any more has only zeros
 abbrev pub FreedBlocksAreBlank : Type 0
 FreedBlocksAreBlank = (image : Image) (n place : ℕ) (new : List ℕ) → place + length new ≤ header_size → header_size ≤ length_of image (Block n)
-    → Along (AreFreedBlank n image) image (write_steps image (Block n) place new)
+    → Along (AreFreedBlank n image) image (erasing_write_steps image (Block n) place new)
 
 -- the range of all blocks that a write into a block file frees
 abbrev pub freed_bytes : Image → ℕ → ℕ → List ℕ → Footprint
@@ -41,7 +41,7 @@ freed_bytes image n place new = record {
 -- at each step of a write into a block file nothing has changed but its own bytes and the blocks that it frees
 abbrev pub OnlyFreedBlocksChange : Type 0
 OnlyFreedBlocksChange = (image : Image) (n place : ℕ) (new : List ℕ)
-    → Along (SameOutside (either (range (Block n) place (length new)) (freed_bytes image n place new)) image) image (write_steps image (Block n) place new)
+    → Along (SameOutside (either (range (Block n) place (length new)) (freed_bytes image n place new)) image) image (erasing_write_steps image (Block n) place new)
 
 -- after the zeros before a cut each byte from the new end on is 0, and those before it are unchanged
 abbrev pub CutBytesAreBlank : Type 0

@@ -20,7 +20,7 @@ use Rattle.blk_disk.proofs.Joined.{among_kinds}
 use Rattle.blk_disk.proofs.Standings.{count_is, names_blocks, start_is}
 use Rattle.blk_entry.proofs.KeyPlaces.{head_word}
 use Rattle.blk_script.specs.Spelling.{line, number_text}
-use Rattle.blk_inspect.specs.Texts.{address_text, file_text, file_words, index_words, none_line, place_line, record_text, record_words, words_text}
+use Rattle.blk_inspect.specs.Texts.{address_text, file_text, file_words, named_index_words, none_line, place_line, record_text, record_words, words_text}
 
 -- a content of which only the first bytes count
 clipped : ℕ → (ℕ → ℕ) → ℕ → ℕ
@@ -34,8 +34,8 @@ same_clipped n f g same = λ j i. at_place i (nat_lt i n) refl j
     at_place i true e = same i (grind (arith, nat_tests))
     at_place i false e = refl
 
-index_clipped : (f : ℕ → ℕ) → index_words f ≡ index_words (clipped 368 f)
-unfolding clipped index_words
+index_clipped : (f : ℕ → ℕ) → named_index_words f ≡ named_index_words (clipped 368 f)
+unfolding clipped named_index_words
 index_clipped f = refl
 
 file_clipped : (f : ℕ → ℕ) → file_words f ≡ file_words (clipped 80 f)
@@ -43,10 +43,10 @@ unfolding clipped file_words
 file_clipped f = refl
 
 -- the words of the index are read of its header
-pub index_read : (f : ℕ → ℕ) (window : List ℕ) → window ≡ range_at f 0 368 → index_words (content window) ≡ index_words f
+pub index_read : (f : ℕ → ℕ) (window : List ℕ) → window ≡ range_at f 0 368 → named_index_words (content window) ≡ named_index_words f
 index_read f window is =
     index_clipped (content window)
-    ∙ ap index_words (same_clipped 368 (content window) f (λ i small. ap (λ (l : List ℕ). content l i) is ∙ content-range 368 0 f i i small (omega arith)))
+    ∙ ap named_index_words (same_clipped 368 (content window) f (λ i small. ap (λ (l : List ℕ). content l i) is ∙ content-range 368 0 f i i small (omega arith)))
     ∙ sym (index_clipped f)
 
 -- and those of a block file

@@ -47,8 +47,8 @@ abbrev pub words_text : List (List ℕ × ℕ) → List ℕ
 words_text words = flat_map (λ word. named_word_line word.0 word.1) words
 
 -- the words of the index header, with their names
-unfoldable pub index_words : (ℕ → ℕ) → List (List ℕ × ℕ)
-index_words f =
+unfoldable pub named_index_words : (ℕ → ℕ) → List (List ℕ × ℕ)
+named_index_words f =
     (codes "magic", magic_of f)
     ∷ (codes "version", version_of f)
     ∷ (codes "num_entries", num_entries_of f)
@@ -195,7 +195,7 @@ reason_line place number name = line (codes "dropped" ∷ data_text place ∷ nu
 
 -- the text of the index header
 unfoldable pub index_text : Image → List ℕ
-index_text image = words_text (index_words (byte image Index))
+index_text image = words_text (named_index_words (byte image Index))
 
 -- the text of a block file's header, or `none` where the file isn't linked
 unfoldable pub file_text : ℕ → Image → List ℕ

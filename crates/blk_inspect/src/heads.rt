@@ -44,7 +44,7 @@ pub(crate) fn read_index<F: Folder>(alloc: Global, folder: &mut F) -> Result<Fin
 
 // The words of the header of an index, with their names.
 fn index_words(alloc: Global, head: &IndexHead<'_>) -> Result<Vec<NamedWord>, NoMemory>
-    ensures { IfOk result (λ words. map word_said words.items ≡ text.index_words (content head.now)) }
+    ensures { IfOk result (λ words. map word_said words.items ≡ text.named_index_words (content head.now)) }
 {
     let words = Vec::from_slice(
         alloc,

@@ -3,7 +3,7 @@ use Rattle.std.proofs.Common.{◌≡◌, ℕ, ◌+◌, ◌*◌, ◌%◌, ◌/◌
 use Rattle.std.specs.Prelude.{◌==◌, ◌^◌}
 use Rattle.spec_image.specs.Image.{AreBytes, Image, Index, byte, word}
 use Rattle.spec_image.proofs.ByteSteps.{word-small}
-use Rattle.spec_format.specs.Headers.{count_of, counting, num_bytes64_of}
+use Rattle.spec_format.specs.Headers.{index_count_of, counting, num_bytes64_of}
 use Rattle.spec_format.proofs.Counts.{count-is, its-bytes, its-entries, its-nodes, its-version}
 use Rattle.blk_model.specs.State.{State}
 use Rattle.spec_folder.specs.Layout.{Layout}
@@ -45,7 +45,7 @@ module _ (from image : Image) (x : ℕ) (l : IsIndexLong 48 x from image) where
       let high : word image Index 52 ≡ x / 4294967296 = l.high.there in
       omega (arith, low, high)
 
-  pub sum-counted : (items sum : ℕ) → count_of (byte from Index) ≡ counting items sum → count_of (byte image Index) ≡ counting items x
+  pub sum-counted : (items sum : ℕ) → index_count_of (byte from Index) ≡ counting items sum → index_count_of (byte image Index) ≡ counting items x
   sum-counted items sum counts =
       let f : ℕ → ℕ = byte from Index in
       count-is (byte image Index) items x (leaves 4 refl refl refl ∙ its-version f items sum counts) (leaves 8 refl refl refl ∙ its-entries f items sum counts) (leaves 12 refl refl refl ∙ its-bytes f items sum counts) sum-there (leaves 268 refl refl refl ∙ its-nodes f items sum counts)
@@ -53,7 +53,7 @@ module _ (from image : Image) (x : ℕ) (l : IsIndexLong 48 x from image) where
 -- ---- all counters
 
 -- once they are written, so many items are counted with this sum
-pub counters-counted : (from image : Image) (was sum items x : ℕ) → count_of (byte from Index) ≡ counting was sum → AreCountersWritten items x items from image → count_of (byte image Index) ≡ counting items x
+pub counters-counted : (from image : Image) (was sum items x : ℕ) → index_count_of (byte from Index) ≡ counting was sum → AreCountersWritten items x items from image → index_count_of (byte image Index) ≡ counting items x
 counters-counted from image was sum items x counts w =
     counters-say items x items from image w
     ∙ (λ j. record { version = its-version (byte from Index) was sum counts j; entries = items; bytes = its-bytes (byte from Index) was sum counts j; bytes64 = x; nodes = items })

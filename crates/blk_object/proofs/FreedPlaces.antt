@@ -17,7 +17,7 @@ use Rattle.spec_folder.specs.Tidy.{loaded_at}
 use Rattle.law_folder.proofs.claims.ByteChanges.{stands-blocks}
 use Rattle.blk_alloc.specs.Owning.{CanBeFreed}
 use Rattle.law_state.specs.Changes.{Finds, KeepsWith, RemovesAllocation, RemovesExternal, StillFinds}
-use Rattle.spec_format.specs.Headers.{count_of}
+use Rattle.spec_format.specs.Headers.{index_count_of}
 use Rattle.law_state.specs.Keeping.{KeepsUncounted, words_in_use}
 use Rattle.law_state.specs.PartlyOut.{KeepsPartlyOut, left_nodes}
 use Rattle.law_state.specs.PartlyOutStops.{LeavesOtherKeys}
@@ -30,7 +30,7 @@ use Rattle.law_state.proofs.PartlyOut.{kept-begin}
 use Rattle.law_state.proofs.PartlyOutStops.{deleting-doomed, freeing-finds, partly-out-finds}
 use Rattle.law_state.proofs.Free.{then-found}
 use Rattle.law_state.proofs.Writes.{growth-finds}
-use Rattle.blk_object.specs.Freeing.{AreFreeable, AreGoing, FreedWordsAreGone, FreedWordsAreGonePartlyOut, FreedWordsLeaveCounters, GoingWordsFindDoomed, GoingWordsFindTheSame, IsNextGoing, IsPlaceGoing, Removes, RemovesPlace, UnlinkedWordsAreFreeable, words_at}
+use Rattle.blk_object.specs.Freeing.{AreFreeable, AreGoing, FreedWordsAreGone, FreedWordsAreGonePartlyOut, FreedWordsLeaveCounters, GoingWordsFindDoomed, GoingWordsFindTheSame, IsNextGoing, IsPlaceGoing, Removes, RemovesPlace, UnlinkedWordsAreFreeable, words_among}
 
 -- ---- what may be freed
 
@@ -89,7 +89,7 @@ same-index [] from image is i = ap (λ (x : Image). byte x Index i) is
 same-index (w ∷ words) from image r i = same-index words r.0 image r.1.1 i ∙ r.1.0.index i
 
 pub all-counted : FreedWordsLeaveCounters
-all-counted words from image r = ap count_of same where
+all-counted words from image r = ap index_count_of same where
   same : byte image Index ≡ byte from Index
   same = λ j i. same-index words from image r i j
 
@@ -123,16 +123,16 @@ pub none-going : (words : List ℕ) (from : Image) → AreGoing words from from
 none-going words from = record { front = []; left = words; split = refl; between = from; removed = refl; next = nothing-going words from }
 
 -- the place of one word is being freed
-pub one-going : (place : Option ℕ) (w : ℕ) (from image : Image) → place ≡ Some w → IsPlaceGoing w from image → AreGoing (words_at (place ∷ [])) from image
-one-going place w from image is going = subst (λ (p : Option ℕ). AreGoing (words_at (p ∷ [])) from image) (sym is) (record { front = []; left = w ∷ []; split = refl; between = from; removed = refl; next = inr going })
+pub one-going : (place : Option ℕ) (w : ℕ) (from image : Image) → place ≡ Some w → IsPlaceGoing w from image → AreGoing (words_among (place ∷ [])) from image
+one-going place w from image is going = subst (λ (p : Option ℕ). AreGoing (words_among (p ∷ [])) from image) (sym is) (record { front = []; left = w ∷ []; split = refl; between = from; removed = refl; next = inr going })
 
 -- the place of one word is freed
-pub one-freed : (place : Option ℕ) (w : ℕ) (from image : Image) → place ≡ Some w → RemovesPlace w from image → Removes (words_at (place ∷ [])) from image
-one-freed place w from image is removes = subst (λ (p : Option ℕ). Removes (words_at (p ∷ [])) from image) (sym is) (image, (removes, refl))
+pub one-freed : (place : Option ℕ) (w : ℕ) (from image : Image) → place ≡ Some w → RemovesPlace w from image → Removes (words_among (place ∷ [])) from image
+one-freed place w from image is removes = subst (λ (p : Option ℕ). Removes (words_among (p ∷ [])) from image) (sym is) (image, (removes, refl))
 
 -- and may be, where such a place may
-pub one-may : (place : Option ℕ) (w : ℕ) (from : Image) → place ≡ Some w → AreFreeable (words_at (place ∷ [])) from → AreFreeable (w ∷ []) from
-one-may place w from is a = subst (λ (p : Option ℕ). AreFreeable (words_at (p ∷ [])) from) is a
+pub one-may : (place : Option ℕ) (w : ℕ) (from : Image) → place ≡ Some w → AreFreeable (words_among (place ∷ [])) from → AreFreeable (w ∷ []) from
+one-may place w from is a = subst (λ (p : Option ℕ). AreFreeable (words_among (p ∷ [])) from) is a
 
 next-finds : (left : List ℕ) (from image : Image) → IsNextGoing left from image → StillFinds left from image
 next-finds [] from image is = subst (λ (i : Image). StillFinds [] from i) (sym is) (then-found [] [] from from (λ state layout unlinked k. k))

@@ -12,7 +12,7 @@ use Rattle.blk_disk.specs.Tables.{Agrees}
 use Rattle.spec_image.specs.Told.{Passes, Told}
 use Rattle.spec_image.proofs.Runs.{passes_none, passes_then, passes_weaker, some_inj}
 use Rattle.blk_stream.proofs.Joined.{IsTold, told_then}
-use Rattle.blk_object.specs.Freeing.{AreFreeable, AreGoing, IsNextGoing, Removes, words_at}
+use Rattle.blk_object.specs.Freeing.{AreFreeable, AreGoing, IsNextGoing, Removes, words_among}
 use Rattle.blk_object.proofs.FreedPlaces.{all-freed, all-may, prefix-may, none-going}
 
 -- a call that leaves the length of the index, and what is kept of the block files, leaves the folder open
@@ -100,27 +100,27 @@ module _ (a t n : Told) (words done next left : List ℕ) (has : HasFreed a t wo
 
 -- the first `count` places are freed
 abbrev pub HasFreedPlaces : Told → Told → List (Option ℕ) → ℕ → Type 0
-HasFreedPlaces a t places count = HasFreed a t (words_at places) (words_at (take count places)) (words_at (drop count places))
+HasFreedPlaces a t places count = HasFreed a t (words_among places) (words_among (take count places)) (words_among (drop count places))
 
 pub places-begun : (a : Told) (places : List (Option ℕ)) → HasFreedPlaces a a places 0
-places-begun a places = begun a (words_at places)
+places-begun a places = begun a (words_among places)
 
 module _ (places : List (Option ℕ)) (count : ℕ) (place : Option ℕ) (inside : count < length places) (is : place ≡ get_or places count place) where
-  left-is : words_at (drop count places) ≡ words_at (place ∷ []) ++ words_at (drop (count + 1) places)
-  left-is = ap words_at (drop_more places count place inside ∙ ap (λ (p : Option ℕ). p ∷ drop (count + 1) places) (sym is)) ∙ filter_map-append (λ (p : Option ℕ). p) (place ∷ []) (drop (count + 1) places)
+  left-is : words_among (drop count places) ≡ words_among (place ∷ []) ++ words_among (drop (count + 1) places)
+  left-is = ap words_among (drop_more places count place inside ∙ ap (λ (p : Option ℕ). p ∷ drop (count + 1) places) (sym is)) ∙ filter_map-append (λ (p : Option ℕ). p) (place ∷ []) (drop (count + 1) places)
 
-  done-is : words_at (take (count + 1) places) ≡ words_at (take count places) ++ words_at (place ∷ [])
-  done-is = ap words_at (take_more places count place inside ∙ ap (λ (p : Option ℕ). take count places ++ p ∷ []) (sym is)) ∙ filter_map-append (λ (p : Option ℕ). p) (take count places) (place ∷ [])
+  done-is : words_among (take (count + 1) places) ≡ words_among (take count places) ++ words_among (place ∷ [])
+  done-is = ap words_among (take_more places count place inside ∙ ap (λ (p : Option ℕ). take count places ++ p ∷ []) (sym is)) ∙ filter_map-append (λ (p : Option ℕ). p) (take count places) (place ∷ [])
 
-  pub place-next : (a t : Told) → HasFreedPlaces a t places count → HasFreed a t (words_at places) (words_at (take count places)) (words_at (place ∷ []) ++ words_at (drop (count + 1) places))
-  place-next a t has = subst (HasFreed a t (words_at places) (words_at (take count places))) left-is has
+  pub place-next : (a t : Told) → HasFreedPlaces a t places count → HasFreed a t (words_among places) (words_among (take count places)) (words_among (place ∷ []) ++ words_among (drop (count + 1) places))
+  place-next a t has = subst (HasFreed a t (words_among places) (words_among (take count places))) left-is has
 
-  pub place-done : (a n : Told) → HasFreed a n (words_at places) (words_at (take count places) ++ words_at (place ∷ [])) (words_at (drop (count + 1) places)) → HasFreedPlaces a n places (count + 1)
-  place-done a n has = subst (λ (ws : List ℕ). HasFreed a n (words_at places) ws (words_at (drop (count + 1) places))) (sym done-is) has
+  pub place-done : (a n : Told) → HasFreed a n (words_among places) (words_among (take count places) ++ words_among (place ∷ [])) (words_among (drop (count + 1) places)) → HasFreedPlaces a n places (count + 1)
+  place-done a n has = subst (λ (ws : List ℕ). HasFreed a n (words_among places) ws (words_among (drop (count + 1) places))) (sym done-is) has
 
 -- all places are freed
-pub places-freed : (a t : Told) (places : List (Option ℕ)) (count : ℕ) → length places ≤ count → HasFreedPlaces a t places count → ForSome a.files (λ from. AreFreeable (words_at places) from → ForSome t.files (Removes (words_at places) from))
+pub places-freed : (a t : Told) (places : List (Option ℕ)) (count : ℕ) → length places ≤ count → HasFreedPlaces a t places count → ForSome a.files (λ from. AreFreeable (words_among places) from → ForSome t.files (Removes (words_among places) from))
 places-freed a t places count past has from there may now is =
-    let none : words_at (drop count places) ≡ [] = ap words_at (drop_all count places past) in
-    let same : words_at (take count places) ≡ words_at places = sym (append-nil (words_at (take count places))) ∙ ap (λ (ws : List ℕ). words_at (take count places) ++ ws) (sym none) ∙ sym has.all in
+    let none : words_among (drop count places) ≡ [] = ap words_among (drop_all count places past) in
+    let same : words_among (take count places) ≡ words_among places = sym (append-nil (words_among (take count places))) ∙ ap (λ (ws : List ℕ). words_among (take count places) ++ ws) (sym none) ∙ sym has.all in
     subst (λ (ws : List ℕ). Removes ws from now) same (has.ends from there may now is).0

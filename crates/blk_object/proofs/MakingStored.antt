@@ -14,7 +14,7 @@ use Rattle.spec_format.specs.Address.{external, external_number}
 use Rattle.spec_format.specs.BlockFiles.{is_among}
 use Rattle.spec_format.specs.Claims.{BlockOf, Claim, ExternalOf, claims_of, claims_of_all, has_claim, repeats, same_claim}
 use Rattle.spec_format.specs.Growth.{HaveGrown}
-use Rattle.spec_format.specs.Headers.{count_of}
+use Rattle.spec_format.specs.Headers.{index_count_of}
 use Rattle.spec_format.proofs.Among.{is_among-append}
 use Rattle.spec_folder.specs.Footprint.{AgreeBut, IsClear, is_absent}
 use Rattle.spec_folder.specs.Layout.{Layout}
@@ -41,7 +41,7 @@ use Rattle.spec_format.proofs.Counts.{same-count}
 
 -- the same index has the same counters
 pub index-counters : (from image : Image) → ((i : ℕ) → byte image Index i ≡ byte from Index i) → SameCounters from image
-index-counters from image same = ap count_of all
+index-counters from image same = ap index_count_of all
   where
     all : byte image Index ≡ byte from Index
     all j i = same i j

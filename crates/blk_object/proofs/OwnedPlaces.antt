@@ -29,8 +29,8 @@ use Rattle.blk_entry.proofs.KeyPlaces.{blocks_stand}
 use Rattle.blk_entry.specs.declared.keys.Head.{Head}
 use Rattle.blk_entry.specs.Keys.{IsRecordHead}
 use Rattle.law_state.proofs.Groups as groups
-use Rattle.blk_object.specs.Freeing.{words_at}
-use Rattle.blk_object.specs.Owning.{KeptNodesLoad, LeftNodesLoad, LoadsWith, is_there}
+use Rattle.blk_object.specs.Freeing.{words_among}
+use Rattle.blk_object.specs.Owning.{KeptNodesLoad, LeftNodesLoad, LoadsWith, is_address_there}
 use Rattle.blk_object.specs.RemovingObjects.{IsOwnedBy}
 use Rattle.blk_object.specs.declared.owning.Owned.{Owned}
 
@@ -96,10 +96,10 @@ says image entry head loaded is with_record = load-then (store_of image) with_re
 abbrev place_at : ℕ → Option ℕ
 place_at w = if w == 0 then None else Some w
 
-more-places : (w : ℕ) (places : List (Option ℕ)) (ws : List ℕ) → words_at places ≡ filter some_word ws → words_at (place_at w ∷ places) ≡ filter some_word (w ∷ ws)
+more-places : (w : ℕ) (places : List (Option ℕ)) (ws : List ℕ) → words_among places ≡ filter some_word ws → words_among (place_at w ∷ places) ≡ filter some_word (w ∷ ws)
 unfolding some_word
 more-places w places ws same = go (w == 0) refl where
-  go : (b : Bool) → (w == 0) ≡ b → cons_option (if b then None else Some w) (words_at places) ≡ (if not b then w ∷ filter some_word ws else filter some_word ws)
+  go : (b : Bool) → (w == 0) ≡ b → cons_option (if b then None else Some w) (words_among places) ≡ (if not b then w ∷ filter some_word ws else filter some_word ws)
   go true e = same
   go false e = ap (λ (vs : List ℕ). w ∷ vs) same
 
@@ -110,7 +110,7 @@ no-word w e = rw e refl
 -- the places that were read are those of all words of what lies there
 pub owned-words : (image : Image) (entry : ℕ) (head : Head) (loaded : Loaded) (node long_key first second third : Option ℕ) → IsRecordHead image entry head → LoadsWith entry loaded image
     → node ≡ place_at head.node → long_key ≡ place_at head.long_key → first ≡ place_at (slice_index head.addrs 0) → second ≡ place_at (slice_index head.addrs 1) → third ≡ place_at (slice_index head.addrs 2)
-    → words_at (node ∷ Some entry ∷ long_key ∷ first ∷ second ∷ third ∷ []) ≡ words_of loaded
+    → words_among (node ∷ Some entry ∷ long_key ∷ first ∷ second ∷ third ∷ []) ≡ words_of loaded
 unfolding some_word
 owned-words image entry head loaded node long_key first second third is with_record node_is key_is first_is second_is third_is =
     let s = says image entry head loaded is with_record in
@@ -127,7 +127,7 @@ owned-words image entry head loaded node long_key first second third is with_rec
     ∙ ap (λ (p : Option ℕ). place_at head.node ∷ place_at entry ∷ place_at head.long_key ∷ p ∷ second ∷ third ∷ []) first_is
     ∙ ap (λ (p : Option ℕ). place_at head.node ∷ place_at entry ∷ place_at head.long_key ∷ p0 ∷ p ∷ third ∷ []) second_is
     ∙ ap (λ (p : Option ℕ). place_at head.node ∷ place_at entry ∷ place_at head.long_key ∷ p0 ∷ p1 ∷ p ∷ []) third_is in
-    ap words_at same
+    ap words_among same
     ∙ more-places head.node (place_at entry ∷ place_at head.long_key ∷ p0 ∷ p1 ∷ p2 ∷ []) (entry ∷ head.long_key ∷ a 0 ∷ a 1 ∷ a 2 ∷ a 3 ∷ [])
     (more-places entry (place_at head.long_key ∷ p0 ∷ p1 ∷ p2 ∷ []) (head.long_key ∷ a 0 ∷ a 1 ∷ a 2 ∷ a 3 ∷ [])
     (more-places head.long_key (p0 ∷ p1 ∷ p2 ∷ []) (a 0 ∷ a 1 ∷ a 2 ∷ a 3 ∷ [])
@@ -140,8 +140,8 @@ owned-words image entry head loaded node long_key first second third is with_rec
 
 -- ---- each is there
 
-there-is : (files : BlockFiles) (image : Image) (w : ℕ) → Agrees files image → stands_in image w ≡ true → is_there files w ≡ true
-unfolding is_there stands
+there-is : (files : BlockFiles) (image : Image) (w : ℕ) → Agrees files image → stands_in image w ≡ true → is_address_there files w ≡ true
+unfolding is_address_there stands
 there-is files image w agrees st = by (and_parts (is_address w) _ st).0 (cases_Bool (kind_of w == external)) where
   by : is_address w ≡ true → (((kind_of w == external) ≡ true) ⊎ ((kind_of w == external) ≡ false)) → (is_address w && ((kind_of w == external) || stands_among files w)) ≡ true
   by address (inl e) = rw (address, e) refl
@@ -156,11 +156,11 @@ first-of P w ws all = go (w == 0) all where
 
 -- the words of a record of which each is there
 pub record AreThere (files : BlockFiles) (head : Head) : Type 0 where
-  pub node : (head.node == 0) ≡ false → is_there files head.node ≡ true
-  pub long_key : (head.long_key == 0) ≡ false → is_there files head.long_key ≡ true
-  pub first : (slice_index head.addrs 0 == 0) ≡ false → is_there files (slice_index head.addrs 0) ≡ true
-  pub second : (slice_index head.addrs 1 == 0) ≡ false → is_there files (slice_index head.addrs 1) ≡ true
-  pub third : (slice_index head.addrs 2 == 0) ≡ false → is_there files (slice_index head.addrs 2) ≡ true
+  pub node : (head.node == 0) ≡ false → is_address_there files head.node ≡ true
+  pub long_key : (head.long_key == 0) ≡ false → is_address_there files head.long_key ≡ true
+  pub first : (slice_index head.addrs 0 == 0) ≡ false → is_address_there files (slice_index head.addrs 0) ≡ true
+  pub second : (slice_index head.addrs 1 == 0) ≡ false → is_address_there files (slice_index head.addrs 1) ≡ true
+  pub third : (slice_index head.addrs 2 == 0) ≡ false → is_address_there files (slice_index head.addrs 2) ≡ true
 
 pub are-there : (files : BlockFiles) (image : Image) (entry : ℕ) (head : Head) (loaded : Loaded) → Agrees files image → IsRecordHead image entry head → LoadsWith entry loaded image → AreThere files head
 unfolding some_word
@@ -192,6 +192,6 @@ loaded-checks image entry loaded bytes with_record = load-then (store_of image) 
     record_checks image entry bytes (standing-parts image blocks_256 entry (core-standing image entry e here)).1 (ap (λ (x : RecordFields). x.checks) (shown-fields image entry e here) ∙ f.checks))
 
 -- what was read of a record are its places and its cost
-pub owned-by : (told : Told) (entry : ℕ) (owned : Owned) → ForSome told.files (λ image. (loaded : Loaded) → LoadsWith entry loaded image → words_at owned.places ≡ words_of loaded) → ForSome told.files (λ image. (loaded : Loaded) → LoadsWith entry loaded image → owned.charge ≡ charge_of loaded)
+pub owned-by : (told : Told) (entry : ℕ) (owned : Owned) → ForSome told.files (λ image. (loaded : Loaded) → LoadsWith entry loaded image → words_among owned.places ≡ words_of loaded) → ForSome told.files (λ image. (loaded : Loaded) → LoadsWith entry loaded image → owned.charge ≡ charge_of loaded)
     → (image : Image) → told.files ≡ Some image → IsOwnedBy entry owned image
 owned-by told entry owned words charge image there = record { words = words image there; charge = charge image there }

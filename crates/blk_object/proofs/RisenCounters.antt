@@ -9,7 +9,7 @@ use Rattle.spec_image.specs.Told.{Along, Applies, AppliesPrefix, IsQuiet, Passes
 use Rattle.spec_image.proofs.Runs.{passes_part, some_inj, told_part, told_whole}
 use Rattle.blk_disk.specs.declared.tables.BlockFiles.{BlockFiles}
 use Rattle.blk_disk.specs.Open.{IsOpen}
-use Rattle.spec_format.specs.Headers.{count_of, counting, num_bytes64_of}
+use Rattle.spec_format.specs.Headers.{index_count_of, counting, num_bytes64_of}
 use Rattle.spec_folder.specs.Found.{charge_of}
 use Rattle.spec_folder.specs.Layout.{nodes_of}
 use Rattle.spec_folder.specs.Tidy.{loaded_at}
@@ -95,7 +95,7 @@ rises-counted state after layout now unlinked less more from image counts risen 
     let w : IsIndexLong 48 (charged after now) from image = subst (λ (n : ℕ). IsIndexLong 48 n from image) sum r.written in
     record {
       entries = counter-keeps w.between image 52 _ refl w.high after now unlinked (counter-keeps from w.between 48 _ refl w.low after now unlinked k);
-      counters = subst (λ (n : ℕ). count_of (byte image Index) ≡ counting n (charged after now)) (sym risen.items) (sum-counted from image (charged after now) w (length state.uses) (charged state layout) counts);
+      counters = subst (λ (n : ℕ). index_count_of (byte image Index) ≡ counting n (charged after now)) (sym risen.items) (sum-counted from image (charged after now) w (length state.uses) (charged state layout) counts);
     }
 
 -- ---- an item is accessed in between

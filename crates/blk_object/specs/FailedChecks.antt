@@ -31,7 +31,7 @@ use Rattle.blk_entry.specs.Writing.{LiesApart}
 use Rattle.blk_chain.specs.Finding.{EndsUnfound, IsDanglingLink, IsTooLong}
 use Rattle.blk_stream.specs.Streams.{IsMisplacedStream, size_place, size_word, stream_bytes}
 use Rattle.blk_object.specs.ListWalks.{IsListTooLong}
-use Rattle.blk_object.specs.Owning.{is_there}
+use Rattle.blk_object.specs.Owning.{is_address_there}
 
 -- Reads that gave too few bytes.
 
@@ -71,7 +71,7 @@ pub record NamesNoRecord (files : BlockFiles) (told : Told) (file : FileId) (at 
 pub record IsLostWord (files : BlockFiles) (entry at found : ℕ) (damage : Damage) : Type 0 where
   pub of_word : IsWordOf entry at found damage
   pub some : found ≢ 0
-  pub lost : is_there files found ≡ false
+  pub lost : is_address_there files found ≡ false
 
 -- word `at` of a record, as the folder has it, is neither 0 nor the address of an external file or of valid blocks: the error has this word
 pub record NamesNoPlace (files : BlockFiles) (told : Told) (entry at : ℕ) (damage : Damage) : Type 0 where

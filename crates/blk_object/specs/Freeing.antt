@@ -27,8 +27,8 @@ abbrev pub IsPlaceAmong : BlockFiles → Option ℕ → Type 0
 IsPlaceAmong files place = IfSome place (λ w. kind_of w ≢ external → stands_among files w ≡ true)
 
 -- the addresses among these places, without those that are None
-abbrev pub words_at : List (Option ℕ) → List ℕ
-words_at places = filter_map (λ place. place) places
+abbrev pub words_among : List (Option ℕ) → List ℕ
+words_among places = filter_map (λ place. place) places
 
 -- the addresses `words` are unlinked in a folder that keeps some state, perhaps with some of its items out of list and chains
 pub record AreFreeable (words : List ℕ) (from : Image) : Type 0 where

@@ -15,8 +15,8 @@ use Rattle.std.specs.Option.{ForSome}
 use Rattle.spec_image.specs.Told.{Told}
 
 -- word w is the address of an external file, or of valid blocks
-unfoldable pub is_there : BlockFiles → ℕ → Bool
-is_there files w = is_address w && ((kind_of w == external) || stands_among files w)
+unfoldable pub is_address_there : BlockFiles → ℕ → Bool
+is_address_there files w = is_address w && ((kind_of w == external) || stands_among files w)
 
 -- some node loads as `loaded` by some rule of recovery, and its record is at address `entry`
 pub record LoadsWith (entry : ℕ) (loaded : Loaded) (image : Image) : Type 0 where

@@ -7,7 +7,7 @@ use Rattle.blk_model.specs.Request.{Request}
 use Rattle.blk_model.specs.Room.{Group, whole, without}
 use Rattle.blk_model.specs.State.{IsValidState, Object, State, is_named, object_at}
 use Rattle.blk_model.specs.Step.{step}
-use Rattle.spec_format.specs.Headers.{count_of, counting}
+use Rattle.spec_format.specs.Headers.{index_count_of, counting}
 use Rattle.spec_folder.specs.Found.{charge_of}
 use Rattle.spec_folder.specs.Layout.{Layout, is_listed, nodes_of}
 use Rattle.spec_folder.specs.Loads.{Loaded}
@@ -22,7 +22,7 @@ use Rattle.blk_object.specs.Counters.{AreCountedLess}
 
 -- the counters of the index are those of the items that are left: their number and the sum of their costs
 abbrev pub CountsLeft : State → Layout → (Item → Bool) → Image → Type 0
-CountsLeft state layout keep image = count_of (byte image Index) ≡ counting (length (filter keep state.uses)) (charges_at layout (nodes_of layout (filter keep state.uses)))
+CountsLeft state layout keep image = index_count_of (byte image Index) ≡ counting (length (filter keep state.uses)) (charges_at layout (nodes_of layout (filter keep state.uses)))
 
 -- a state that was kept with some items out is kept so still
 abbrev pub KeepsOut : Image → Image → Type 0

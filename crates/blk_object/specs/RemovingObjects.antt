@@ -14,7 +14,7 @@ use Rattle.spec_folder.specs.Sound.{words_of}
 use Rattle.law_state.specs.Changes.{Finds}
 use Rattle.law_state.specs.Keeping.{CountsItems, Keeps, KeepsUncounted}
 use Rattle.law_state.specs.RemovalLaws.{IsWithout, layout_removed}
-use Rattle.blk_object.specs.Freeing.{words_at}
+use Rattle.blk_object.specs.Freeing.{words_among}
 use Rattle.blk_object.specs.Owning.{LoadsWith}
 use Rattle.blk_object.specs.Removing.{LiesBehind}
 use Rattle.blk_object.specs.Counters.{IsOneItemLess}
@@ -43,7 +43,7 @@ ForEachAlone node entry before from P =
 
 -- the addresses and the cost that were read of the entry at a record are those of what is loaded there
 pub record IsOwnedBy (entry : ℕ) (owned : Owned) (image : Image) : Type 0 where
-  pub words : (loaded : Loaded) → LoadsWith entry loaded image → words_at owned.places ≡ words_of loaded
+  pub words : (loaded : Loaded) → LoadsWith entry loaded image → words_among owned.places ≡ words_of loaded
   pub charge : (loaded : Loaded) → LoadsWith entry loaded image → owned.charge ≡ charge_of loaded
 
 -- recovery gives the durable contents of the one state or of the other

@@ -7,7 +7,7 @@ ghost use Rattle.blk_io.specs.Faults.{IfDamaged, IfDevice, UndamagedWhere};
 ghost use Rattle.blk_disk.specs.Open.{IsOpen};
 ghost use Rattle.blk_stream.specs.Freeing.{MayBeFreed};
 ghost use Rattle.blk_object.specs.FailedChecks.{IsFailedCheck};
-ghost use Rattle.blk_object.specs.Freeing.{AreFreeable, IsPlaceGoing, words_at, IsPlaceAmong, FreesWords, StopsFreeing, FreesStanding};
+ghost use Rattle.blk_object.specs.Freeing.{AreFreeable, IsPlaceGoing, words_among, IsPlaceAmong, FreesWords, StopsFreeing, FreesStanding};
 
 use blk_addr::{Addr, Kind};
 use blk_alloc::free;
@@ -28,8 +28,8 @@ pub fn free_places<F: Folder>(
     requires is_open { ForSome (F.told folder.old).files (IsOpen files.now) }
 
     // Places without an owner are freed. At each word those of a prefix are, and the next one perhaps in part.
-    ensures freed { OnOk result (FreesWords (F.told folder.old) (F.told folder.new) (words_at places.now)) }
-    ensures stops { StopsFreeing (F.told folder.old) (F.told folder.new) (words_at places.now) }
+    ensures freed { OnOk result (FreesWords (F.told folder.old) (F.told folder.new) (words_among places.now)) }
+    ensures stops { StopsFreeing (F.told folder.old) (F.told folder.new) (words_among places.now) }
 
     ensures is_open { ForSome (F.told folder.new).files (IsOpen files.now) }
 
@@ -37,7 +37,7 @@ pub fn free_places<F: Folder>(
     ensures damaged { IfDamaged result (IsFailedCheck files.now (F.told folder.new)) }
 
     // An observable folder reports corruption only for a place that has an owner.
-    ensures untold { UndamagedWhere result (F.told folder.old) (AreFreeable (words_at places.now)) }
+    ensures untold { UndamagedWhere result (F.told folder.old) (AreFreeable (words_among places.now)) }
 
     ensures writes { MayWrite F.told F.faults folder.old folder.new (IfDevice result) }
 {
@@ -55,11 +55,11 @@ fn free_if_any<F: Folder>(
 ) -> Result<(), Fault>
     requires stands { IsPlaceAmong files.now place }
     requires is_open { ForSome (F.told folder.old).files (IsOpen files.now) }
-    ensures freed { OnOk result (FreesWords (F.told folder.old) (F.told folder.new) (words_at (place ∷ []))) }
-    ensures stops { StopsFreeing (F.told folder.old) (F.told folder.new) (words_at (place ∷ [])) }
+    ensures freed { OnOk result (FreesWords (F.told folder.old) (F.told folder.new) (words_among (place ∷ []))) }
+    ensures stops { StopsFreeing (F.told folder.old) (F.told folder.new) (words_among (place ∷ [])) }
     ensures is_open { ForSome (F.told folder.new).files (IsOpen files.now) }
     ensures damaged { IfDamaged result (IsFailedCheck files.now (F.told folder.new)) }
-    ensures untold { UndamagedWhere result (F.told folder.old) (AreFreeable (words_at (place ∷ []))) }
+    ensures untold { UndamagedWhere result (F.told folder.old) (AreFreeable (words_among (place ∷ []))) }
     ensures writes { MayWrite F.told F.faults folder.old folder.new (IfDevice result) }
     ensures back { (F.told folder.new).files ≡ None → (F.told folder.old).files ≡ None }
 {

@@ -11,8 +11,8 @@ ghost use Rattle.blk_io.specs.Faults.{IfDamaged, IfDevice, UndamagedWhere};
 ghost use Rattle.blk_disk.specs.Open.{IsOpen};
 ghost use Rattle.blk_disk.specs.Tables.{Agrees, stands_among};
 ghost use Rattle.blk_object.specs.FailedChecks.{IsFailedCheck, IsLostWord};
-ghost use Rattle.blk_object.specs.Freeing.{AreFreeable, IsPlaceAmong, words_at, FreesWords, StopsFreeing};
-ghost use Rattle.blk_object.specs.Owning.{is_there, ForLoaded, LoadsSomeWith};
+ghost use Rattle.blk_object.specs.Freeing.{AreFreeable, IsPlaceAmong, words_among, FreesWords, StopsFreeing};
+ghost use Rattle.blk_object.specs.Owning.{is_address_there, ForLoaded, LoadsSomeWith};
 
 use crate::freeing::{free_places, is_external};
 use blk_addr::Addr;
@@ -45,7 +45,7 @@ pub fn read_owned<F: Folder>(
     requires stands { IsTrue (stands_among files.now entry) }
 
     // The answered places are those of all the address words of what lies there with this record, and each is there.
-    ensures words { IfOk result (λ owned. ForLoaded (F.told folder.old) entry (λ loaded. words_at owned.places ≡ words_of loaded)) }
+    ensures words { IfOk result (λ owned. ForLoaded (F.told folder.old) entry (λ loaded. words_among owned.places ≡ words_of loaded)) }
     ensures charge { IfOk result (λ owned. ForLoaded (F.told folder.old) entry (λ loaded. owned.charge ≡ charge_of loaded)) }
     ensures small { IfOk result (λ owned. owned.charge < 2 ^ 34) }
     ensures flags { IfOk result (λ owned. ForSome (F.told folder.old).files (λ image. owned.flags ≡ (entry_at image entry).flags)) }
@@ -78,8 +78,8 @@ pub fn free_owned<F: Folder>(folder: &mut F, files: &BlockFiles, owned: &Owned) 
     requires is_open { ForSome (F.told folder.old).files (IsOpen files.now) }
 
     // Places without an owner are freed. At each word those of a prefix are, and the next one perhaps in part.
-    ensures freed { OnOk result (FreesWords (F.told folder.old) (F.told folder.new) (words_at owned.now.places)) }
-    ensures stops { StopsFreeing (F.told folder.old) (F.told folder.new) (words_at owned.now.places) }
+    ensures freed { OnOk result (FreesWords (F.told folder.old) (F.told folder.new) (words_among owned.now.places)) }
+    ensures stops { StopsFreeing (F.told folder.old) (F.told folder.new) (words_among owned.now.places) }
 
     ensures is_open { ForSome (F.told folder.new).files (IsOpen files.now) }
 
@@ -87,7 +87,7 @@ pub fn free_owned<F: Folder>(folder: &mut F, files: &BlockFiles, owned: &Owned) 
     ensures damaged { IfDamaged result (IsFailedCheck files.now (F.told folder.new)) }
 
     // An observable folder reports corruption only for a place that has an owner.
-    ensures untold { UndamagedWhere result (F.told folder.old) (AreFreeable (words_at owned.now.places)) }
+    ensures untold { UndamagedWhere result (F.told folder.old) (AreFreeable (words_among owned.now.places)) }
 
     ensures writes { MayWrite F.told F.faults folder.old folder.new (IfDevice result) }
 {
@@ -111,7 +111,7 @@ fn place_of(files: &BlockFiles, entry: Addr, at: u32, word: u32) -> Result<Optio
     requires inside { at < entry_size }
     ensures place { IfOk result (λ place. place ≡ (if word == 0 then None else Some word)) }
     ensures there { IfOk result (IsPlaceAmong files.now) }
-    ensures right { ((word == 0) ≡ false → is_there files.now word ≡ true) → IsOk result }
+    ensures right { ((word == 0) ≡ false → is_address_there files.now word ≡ true) → IsOk result }
     ensures damaged { IfDamaged result (IsLostWord files.now entry at word) }
     ensures never { IfDevice result ⊥ }
 {
@@ -125,9 +125,9 @@ fn place_of(files: &BlockFiles, entry: Addr, at: u32, word: u32) -> Result<Optio
 }
 
 // The address that a word is, where it is one of an external file, or of blocks that are there.
-#[tactic(auto, unfolding(crate::specs::Owning::is_there))]
+#[tactic(auto, unfolding(crate::specs::Owning::is_address_there))]
 fn address_there(files: &BlockFiles, word: u32) -> Option<Addr>
-    ensures address { result ≡ (if is_there files.now word then Some word else None) }
+    ensures address { result ≡ (if is_address_there files.now word then Some word else None) }
     ensures there { IsPlaceAmong files.now result }
 {
     let addr = Addr::from_word(word)?;

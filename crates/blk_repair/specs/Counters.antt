@@ -4,7 +4,7 @@ use Rattle.std.specs.List.{sum_by}
 use Rattle.spec_image.specs.Image.{Image, Index, byte, same_file, word}
 use Rattle.spec_image.specs.Steps.{TrailStep, Word, SetLength, Delete, Note, after, word_step}
 use Rattle.spec_image.specs.Told.{Told}
-use Rattle.spec_format.specs.Headers.{count_of, counting, crash_of, header_length, index_version, num_bytes64_place, num_bytes_place, num_entries_place, sizes_place, this_id_of, version_place}
+use Rattle.spec_format.specs.Headers.{index_count_of, counting, crash_of, header_length, index_version, num_bytes64_place, num_bytes_place, num_entries_place, sizes_place, this_id_of, version_place}
 use Rattle.spec_folder.specs.Found.{charge_of, kept}
 use Rattle.blk_io.specs.declared.folder.FileId.TheVariants as names
 use Rattle.blk_io.specs.declared.fault.Damage.{Damage}
@@ -59,7 +59,7 @@ index_steps items bytes this_id image = index_words_steps (counted_words items b
 
 -- the index, in the version that is made now, counts so many items and bytes, and has this session's number and the crash word 1
 pub record HasIndexWords (items bytes this_id : ℕ) (image : Image) : Type 0 where
-  pub counts : count_of (byte image Index) ≡ counting items bytes
+  pub counts : index_count_of (byte image Index) ≡ counting items bytes
   pub id : this_id_of (byte image Index) ≡ this_id
   pub crash : crash_of (byte image Index) ≡ 1
 

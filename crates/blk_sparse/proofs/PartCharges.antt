@@ -19,7 +19,7 @@ use Rattle.blk_model.specs.Sparse.{covered_parts, empty_part, part_after}
 use Rattle.blk_model.specs.State.{Object, part_at}
 use Rattle.blk_model.proofs.PartValues.{length-overwritten}
 use Rattle.blk_sparse.specs.Measuring.{WritesRaiseAsMeasured, charge_there, charge_up_to, end_in}
-use Rattle.blk_sparse.specs.SparseObjects.{missing_parts, value_or_empty, with_bytes, with_piece}
+use Rattle.blk_sparse.specs.SparseObjects.{missing_parts, value_or_empty, with_sparse_bytes, with_piece}
 use Rattle.blk_sparse.proofs.WritingCovered.{at-place, bytes-one, bytes-two, covers-one, covers-two, missing-more, missing-two, still-missing}
 
 second-of : (a b : Bool) → T (a && b) → T b
@@ -97,9 +97,9 @@ next-apart n = grind (arith, nat_tests)
 
 -- by how much the cost of an object rises, and by how many items it is more
 pub record IsMore (object : Object) (offset : ℕ) (bytes : List ℕ) : Type 0 where
-  pub charged : charge (with_bytes object offset bytes) + sum_by (charge_there object (signature_of object.shape)) (covered_parts offset (length bytes))
+  pub charged : charge (with_sparse_bytes object offset bytes) + sum_by (charge_there object (signature_of object.shape)) (covered_parts offset (length bytes))
       ≡ charge object + sum_by (λ n. charge_up_to object (signature_of object.shape) n (end_in offset (length bytes) n)) (covered_parts offset (length bytes))
-  pub counted : item_count (with_bytes object offset bytes) ≡ item_count object + length (missing_parts object (covered_parts offset (length bytes)))
+  pub counted : item_count (with_sparse_bytes object offset bytes) ≡ item_count object + length (missing_parts object (covered_parts offset (length bytes)))
 
 sum-one : (f : ℕ → ℕ) (n : ℕ) → sum_by f (n ∷ []) ≡ f n
 sum-one f n = let one = sum_by-cons f n [] in omega (arith, one)
@@ -122,14 +122,14 @@ module _ (object : Object) (sorted : T (is_sorted nat_cmp object.parts)) (offset
       let covers = covers-one offset (length bytes) n place refl refl some fits in
       let at = at-place offset n place refl refl in
       let room : place + length bytes ≤ 1048576 = omega (arith, fits) in
-      let whole : with_bytes object offset bytes ≡ with_piece object n place bytes = bytes-one object offset n place bytes covers at room in
+      let whole : with_sparse_bytes object offset bytes ≡ with_piece object n place bytes = bytes-one object offset n place bytes covers at room in
       let ends : end_in offset (length bytes) n ≡ place + length bytes = omega (arith, at, room) in
       let one = charge-piece object sorted n place bytes in
       let was : sum_by (charge_there object signature) (covered_parts offset (length bytes)) ≡ charge_there object signature n = ap (sum_by (charge_there object signature)) covers ∙ sum-one (charge_there object signature) n in
       let now : sum_by (λ k. charge_up_to object signature k (end_in offset (length bytes) k)) (covered_parts offset (length bytes)) ≡ charge_up_to object signature n (place + length bytes) =
       ap (sum_by (λ k. charge_up_to object signature k (end_in offset (length bytes) k))) covers ∙ sum-one (λ k. charge_up_to object signature k (end_in offset (length bytes) k)) n ∙ ap (charge_up_to object signature n) ends in
-      let same : charge (with_bytes object offset bytes) ≡ charge (with_piece object n place bytes) = ap charge whole in
-      let count : item_count (with_bytes object offset bytes) ≡ item_count (with_piece object n place bytes) = ap item_count whole in
+      let same : charge (with_sparse_bytes object offset bytes) ≡ charge (with_piece object n place bytes) = ap charge whole in
+      let count : item_count (with_sparse_bytes object offset bytes) ≡ item_count (with_piece object n place bytes) = ap item_count whole in
       let items = items-piece object sorted n place bytes in
       let missing : length (missing_parts object (covered_parts offset (length bytes))) ≡ length (missing_parts object (n ∷ [])) = ap (λ (ns : List ℕ). length (missing_parts object ns)) covers in
       record { charged = omega (arith, one, was, now, same); counted = omega (arith, count, items, missing) }
@@ -142,7 +142,7 @@ module _ (object : Object) (sorted : T (is_sorted nat_cmp object.parts)) (offset
       let covers = covers-two offset (length bytes) n place refl refl more few in
       let at = at-place offset n place refl refl in
       let rest_is : place + left ≡ 1048576 = omega arith in
-      let whole : with_bytes object offset bytes ≡ with_piece (with_piece object n place front) (n + 1) 0 back = bytes-two object offset n place left bytes covers at rest_is few in
+      let whole : with_sparse_bytes object offset bytes ≡ with_piece (with_piece object n place front) (n + 1) 0 back = bytes-two object offset n place left bytes covers at rest_is few in
       let mid : Object = with_piece object n place front in
       let sorted_mid : T (is_sorted nat_cmp mid.parts) = is_sorted-put nat_cmp nat_cmp_total n (part_after (value_or_empty object n) place front) object.parts sorted in
       let long_front = length-take left bytes in
@@ -159,8 +159,8 @@ module _ (object : Object) (sorted : T (is_sorted nat_cmp object.parts)) (offset
       let now : sum_by (λ k. charge_up_to object signature k (end_in offset (length bytes) k)) (covered_parts offset (length bytes)) ≡ charge_up_to object signature n (place + length front) + charge_up_to object signature (n + 1) (0 + length back) =
       ap (sum_by (λ k. charge_up_to object signature k (end_in offset (length bytes) k))) covers ∙ sum-two (λ k. charge_up_to object signature k (end_in offset (length bytes) k)) n (n + 1)
       ∙ ap₂ (λ (a b : ℕ). charge_up_to object signature n a + charge_up_to object signature (n + 1) b) first_end second_end in
-      let same : charge (with_bytes object offset bytes) ≡ charge (with_piece mid (n + 1) 0 back) = ap charge whole in
-      let count : item_count (with_bytes object offset bytes) ≡ item_count (with_piece mid (n + 1) 0 back) = ap item_count whole in
+      let same : charge (with_sparse_bytes object offset bytes) ≡ charge (with_piece mid (n + 1) 0 back) = ap charge whole in
+      let count : item_count (with_sparse_bytes object offset bytes) ≡ item_count (with_piece mid (n + 1) 0 back) = ap item_count whole in
       let first_items = items-piece object sorted n place front in
       let second_items = items-piece mid sorted_mid (n + 1) 0 back in
       let missing_mid : length (missing_parts mid ((n + 1) ∷ [])) ≡ length (missing_parts object ((n + 1) ∷ [])) = ap length (still-missing object n (n + 1) (part_after (value_or_empty object n) place front) (next-apart n)) in

@@ -37,7 +37,7 @@ use Rattle.blk_object.proofs.GoingNext.{then-counters}
 use Rattle.blk_object.proofs.MakingRoom.{uses-few}
 use Rattle.blk_object.proofs.MakingTaken.{session-then}
 use Rattle.blk_sparse.specs.Parts.{FindsBeforeOrAfter, ForEachListedAt, IsListedAt, IsUsed}
-use Rattle.blk_sparse.specs.SparseObjects.{CanBecomeSparse, CanGetParts, ForEachGrowing, ForEachPlain, KeepsParent, KeepsParentThen, OthersLieAsBefore, parts_of, with_bytes, with_bytes_written, with_signature}
+use Rattle.blk_sparse.specs.SparseObjects.{CanBecomeSparse, CanGetParts, ForEachGrowing, ForEachPlain, KeepsParent, KeepsParentThen, OthersLieAsBefore, parts_of, with_sparse_bytes, with_bytes_written, with_signature}
 use Rattle.blk_sparse.specs.SparseWrites.{AreItemsCounted, CanBeStored, CountsAfter, ForEachTarget, IsCountedThen, IsKeptWithBytes, IsTarget, object_written, signature_to, sparse_state, with_parent_used}
 use Rattle.blk_sparse.specs.declared.storing.Target.{Target}
 use Rattle.blk_sparse.proofs.Begun.{set-twice}
@@ -236,7 +236,7 @@ module _ (state : State) (layout : Layout) (number : ℕ) (object : Object) (tar
       few = λ now unlinked end l. subst (λ (s : State). length s.uses < 2 ^ 32) (sym state-is) (few-uses now unlinked end (subst (λ (s : State). KeepsUncounted s now unlinked end) state-is l));
     }
 
-    pub all-stored : (image : Image) → IsCountedThen written_state k.now [] number (with_bytes (with_signature object (signature_to target)) offset bytes) target.parent.node target.parent.entry (signature_to target) mid image → IsKeptWithBytes state layout number object target offset bytes from image
+    pub all-stored : (image : Image) → IsCountedThen written_state k.now [] number (with_sparse_bytes (with_signature object (signature_to target)) offset bytes) target.parent.node target.parent.entry (signature_to target) mid image → IsKeptWithBytes state layout number object target offset bytes from image
     all-stored image m = record {
       now = m.now;
       kept = subst (λ (s : State). Keeps s m.now [] image) state-is (record { entries = m.parent.kept; counters = m.counts });
@@ -246,7 +246,7 @@ module _ (state : State) (layout : Layout) (number : ℕ) (object : Object) (tar
       record_is = m.parent.record_is;
       others = subst (λ (s : State). OthersLieAsBefore s number layout m.now) state-is
           (others-then written_state number layout k.now m.now
-          (others-of begun_state written_state number layout k.now (λ other apart. set-else begun_state number other (Some (with_bytes (with_signature object (signature_to target)) offset bytes)) apart) k.others) m.others);
+          (others-of begun_state written_state number layout k.now (λ other apart. set-else begun_state number other (Some (with_sparse_bytes (with_signature object (signature_to target)) offset bytes)) apart) k.others) m.others);
       session = session-then from mid image k.session m.session;
     }
 
@@ -294,11 +294,11 @@ module _ (target : Target) (a m : Told) (from : Image) (there : a.files ≡ Some
 
 -- the bytes are written, and then counted
 module _ (offset : ℕ) (bytes : List ℕ) (a m b : Told) (from : Image) (there : a.files ≡ Some from) (state : State) (layout : Layout) (unlinked : List ℕ) (number : ℕ) (object : Object) (node entry signature : ℕ) (can : CanGetParts (covered_parts offset (length bytes)) state layout unlinked number object node entry signature from)
-    (first : Passes a m (Finds (rest state))) (written : ForSome m.files (KeepsParentThen (with_bytes_written state number object offset bytes) layout unlinked number (with_bytes object offset bytes) node entry signature from)) where
+    (first : Passes a m (Finds (rest state))) (written : ForSome m.files (KeepsParentThen (with_bytes_written state number object offset bytes) layout unlinked number (with_sparse_bytes object offset bytes) node entry signature from)) where
   abbrev told : IsTold m (Finds (rest state))
   told = told_then a m from (Finds (rest state)) there first
 
-  abbrev w : KeepsParentThen (with_bytes_written state number object offset bytes) layout unlinked number (with_bytes object offset bytes) node entry signature from (told_then a m from (Finds (rest state)) there first).image
+  abbrev w : KeepsParentThen (with_bytes_written state number object offset bytes) layout unlinked number (with_sparse_bytes object offset bytes) node entry signature from (told_then a m from (Finds (rest state)) there first).image
   w = written told.image told.is
 
   -- the old durable contents are so still
@@ -308,13 +308,13 @@ module _ (offset : ℕ) (bytes : List ℕ) (a m b : Told) (from : Image) (there 
   pub count-passes : ForSome m.files (λ i. Passes m b (KeepsWith [] [] i)) → Passes a b (Finds (rest state))
   count-passes kept =
       let may : (i : Image) → KeepsWith [] [] told.image i → Finds (rest state) i = λ i k. subst (λ (rows : List Row). Finds rows i) same-rest
-      (count-finds (with_bytes_written state number object offset bytes) layout unlinked number (with_bytes object offset bytes) node entry signature from told.image i w can.unsettled k) in
+      (count-finds (with_bytes_written state number object offset bytes) layout unlinked number (with_sparse_bytes object offset bytes) node entry signature from told.image i w can.unsettled k) in
       passes_then first (passes_weaker (kept told.image told.is) may may)
 
   pub count-ends : ForSome m.files (λ i. Passes m b (KeepsWith [] [] i)) → (entries charge : ℕ) → ForSome m.files (λ i. ForSome b.files (AreItemsCounted entries charge i)) → (counted : State) (laid : Layout) → CountsAfter counted laid (with_bytes_written state number object offset bytes) entries charge from
-      → ForSome b.files (IsCountedThen (with_bytes_written state number object offset bytes) layout unlinked number (with_bytes object offset bytes) node entry signature from)
+      → ForSome b.files (IsCountedThen (with_bytes_written state number object offset bytes) layout unlinked number (with_sparse_bytes object offset bytes) node entry signature from)
   count-ends kept entries charge more counted laid c image is =
-      then-counted (with_bytes_written state number object offset bytes) layout unlinked number (with_bytes object offset bytes) node entry signature from told.image image w can.unsettled (passes_end (kept told.image told.is) image is) counted laid entries charge c (more told.image told.is image is)
+      then-counted (with_bytes_written state number object offset bytes) layout unlinked number (with_sparse_bytes object offset bytes) node entry signature from told.image image w can.unsettled (passes_end (kept told.image told.is) image is) counted laid entries charge c (more told.image told.is image is)
 
   pub count-untold : {A : Type 0} (r : Result A Fault) → IfDamaged r (λ _. m.files ≡ None) → IfDamaged r (λ _. a.files ≡ None)
   count-untold {A} r untold = if_damaged_weaker r (λ _. m.files ≡ None) (λ _. a.files ≡ None) (λ damage none. absurd (let z : ◌≡◌ {A = Option Image} None (Some told.image) = sym none ∙ told.is in cc)) untold
@@ -339,7 +339,7 @@ module _ (target : Target) (offset : ℕ) (bytes : List ℕ) (entries charge : �
   all-stops passes = passes_then begins (subst (λ (rows : List Row). Passes m b (Finds rows)) (begun-at-rest state layout number object target offset bytes entries charge from c) (passes at_mid.image at_mid.is (with_parent_used state number object (signature_to target)) k.now [] number (with_signature object (signature_to target)) grows))
 
   pub all-ends : ForSome m.files (λ i. ForEachGrowing (covered_parts offset (length bytes)) target.parent.node target.parent.entry (signature_to target) i (λ state layout unlinked number object. (counted : State) (laid : Layout) → CountsAfter counted laid (with_bytes_written state number object offset bytes) entries charge i
-      → ForSome b.files (IsCountedThen (with_bytes_written state number object offset bytes) layout unlinked number (with_bytes object offset bytes) target.parent.node target.parent.entry (signature_to target) i)))
+      → ForSome b.files (IsCountedThen (with_bytes_written state number object offset bytes) layout unlinked number (with_sparse_bytes object offset bytes) target.parent.node target.parent.entry (signature_to target) i)))
       → ForSome b.files (IsKeptWithBytes state layout number object target offset bytes from)
   all-ends ends image is =
       all-stored state layout number object target offset bytes entries charge from c at_mid.image k image

@@ -29,7 +29,7 @@ use Rattle.law_state.proofs.Dirtying.{set-else}
 use Rattle.law_state.proofs.Keeping.{kept-held}
 use Rattle.blk_object.proofs.MakingStored.{counters-then}
 use Rattle.blk_object.proofs.MakingTaken.{session-then}
-use Rattle.blk_sparse.specs.SparseObjects.{CanGetParts, KeepsParent, KeepsParentThen, OthersLieAsBefore, missing_parts, parts_of, value_or_empty, with_bytes, with_bytes_written, with_piece, with_piece_written}
+use Rattle.blk_sparse.specs.SparseObjects.{CanGetParts, KeepsParent, KeepsParentThen, OthersLieAsBefore, missing_parts, parts_of, value_or_empty, with_sparse_bytes, with_bytes_written, with_piece, with_piece_written}
 use Rattle.blk_sparse.specs.Writing.{AreInOrder, IsPieceInOrder, kept_with_piece}
 use Rattle.blk_sparse.proofs.Begun.{object-valid}
 use Rattle.blk_sparse.proofs.NewMade.{set-self}
@@ -79,7 +79,7 @@ one-piece offset n place bytes at room =
     let before : n * 1048576 - offset ≡ 0 = omega (arith, at) in
     record { inside = inside; piece = ap (λ (d : ℕ). take (1048576 - (offset - n * 1048576)) (drop d bytes)) before ∙ take_all (1048576 - (offset - n * 1048576)) bytes (omega (arith, inside, room)) }
 
-pub bytes-one : (object : Object) (offset n place : ℕ) (bytes : List ℕ) → covered_parts offset (length bytes) ≡ n ∷ [] → offset ≡ n * 1048576 + place → place + length bytes ≤ 1048576 → with_bytes object offset bytes ≡ with_piece object n place bytes
+pub bytes-one : (object : Object) (offset n place : ℕ) (bytes : List ℕ) → covered_parts offset (length bytes) ≡ n ∷ [] → offset ≡ n * 1048576 + place → place + length bytes ≤ 1048576 → with_sparse_bytes object offset bytes ≡ with_piece object n place bytes
 unfolding parts_after
 bytes-one object offset n place bytes covers at room =
     let p = one-piece offset n place bytes at room in
@@ -113,7 +113,7 @@ two-pieces-are offset n place left bytes at rest_is most =
       back = ap (λ (d : ℕ). take (1048576 - (offset - (n + 1) * 1048576)) (drop d bytes)) gone ∙ take_all (1048576 - (offset - (n + 1) * 1048576)) (drop left bytes) (omega (arith, behind, long, most));
     }
 
-pub bytes-two : (object : Object) (offset n place left : ℕ) (bytes : List ℕ) → covered_parts offset (length bytes) ≡ n ∷ (n + 1) ∷ [] → offset ≡ n * 1048576 + place → place + left ≡ 1048576 → length bytes ≤ 1048576 → with_bytes object offset bytes ≡ with_piece (with_piece object n place (take left bytes)) (n + 1) 0 (drop left bytes)
+pub bytes-two : (object : Object) (offset n place left : ℕ) (bytes : List ℕ) → covered_parts offset (length bytes) ≡ n ∷ (n + 1) ∷ [] → offset ≡ n * 1048576 + place → place + left ≡ 1048576 → length bytes ≤ 1048576 → with_sparse_bytes object offset bytes ≡ with_piece (with_piece object n place (take left bytes)) (n + 1) 0 (drop left bytes)
 unfolding parts_after
 bytes-two object offset n place left bytes covers at rest_is most =
     let p = two-pieces-are offset n place left bytes at rest_is most in
@@ -137,11 +137,11 @@ at-place offset n place is_part is_place = omega (arith, is_part, is_place)
 -- ---- no bytes
 
 pub none-written : (state : State) (layout : Layout) (unlinked : List ℕ) (number : ℕ) (object : Object) (node entry signature : ℕ) (from : Image) (offset : ℕ) (bytes : List ℕ) → CanGetParts (covered_parts offset (length bytes)) state layout unlinked number object node entry signature from
-    → length bytes ≡ 0 → (image : Image) → image ≡ from → KeepsParentThen (with_bytes_written state number object offset bytes) layout unlinked number (with_bytes object offset bytes) node entry signature from image
+    → length bytes ≡ 0 → (image : Image) → image ≡ from → KeepsParentThen (with_bytes_written state number object offset bytes) layout unlinked number (with_sparse_bytes object offset bytes) node entry signature from image
 unfolding covered_parts parts_after
 none-written state layout unlinked number object node entry signature from offset [] can none image same =
     let states : with_bytes_written state number object offset [] ≡ state = ap (λ (slots : List (Option Object)). record state { objects = slots }) (set-self state.objects number (Some object) can.parent.here object refl) in
-    subst (λ (i : Image). KeepsParentThen (with_bytes_written state number object offset []) layout unlinked number (with_bytes object offset []) node entry signature from i) (sym same)
+    subst (λ (i : Image). KeepsParentThen (with_bytes_written state number object offset []) layout unlinked number (with_sparse_bytes object offset []) node entry signature from i) (sym same)
     (record {
       now = layout;
       others = others-same (with_bytes_written state number object offset []) number layout;
@@ -163,11 +163,11 @@ module _ (state : State) (layout : Layout) (unlinked : List ℕ) (number : ℕ) 
     can-one = subst (λ (ns : List ℕ). CanGetParts ns state layout unlinked number object node entry signature from) covers can
 
     pub done-one : (image : Image) → KeepsParentThen (with_piece_written state number object n place bytes) layout unlinked number (with_piece object n place bytes) node entry signature from image
-        → KeepsParentThen (with_bytes_written state number object offset bytes) layout unlinked number (with_bytes object offset bytes) node entry signature from image
+        → KeepsParentThen (with_bytes_written state number object offset bytes) layout unlinked number (with_sparse_bytes object offset bytes) node entry signature from image
     done-one image k =
-        let same : with_bytes object offset bytes ≡ with_piece object n place bytes = bytes-one object offset n place bytes covers at room in
+        let same : with_sparse_bytes object offset bytes ≡ with_piece object n place bytes = bytes-one object offset n place bytes covers at room in
         let states : with_bytes_written state number object offset bytes ≡ with_piece_written state number object n place bytes = ap₂ (λ (o : Object) (ns : List ℕ). amidst state number o (used_all (parts_of object ns) state.uses)) same covers in
-        subst (λ (s : State). KeepsParentThen s layout unlinked number (with_bytes object offset bytes) node entry signature from image) (sym states)
+        subst (λ (s : State). KeepsParentThen s layout unlinked number (with_sparse_bytes object offset bytes) node entry signature from image) (sym states)
         (subst (λ (o : Object). KeepsParentThen (with_piece_written state number object n place bytes) layout unlinked number o node entry signature from image) (sym same) k)
 
     -- the one piece is written in order
@@ -229,15 +229,15 @@ module _ (state : State) (layout : Layout) (unlinked : List ℕ) (number : ℕ) 
           (others-of (with_piece_written state number object n place front) last_state number layout k.now (λ other apart. set-else (with_piece_written state number object n place front) number other (Some (with_piece (with_piece object n place front) (n + 1) 0 back)) apart) k.others) last
 
       pub done-two : (image : Image) → KeepsParentThen (with_piece_written (with_piece_written state number object n place front) number (with_piece object n place front) (n + 1) 0 back) k.now unlinked number (with_piece (with_piece object n place front) (n + 1) 0 back) node entry signature mid image
-          → KeepsParentThen (with_bytes_written state number object offset bytes) layout unlinked number (with_bytes object offset bytes) node entry signature from image
+          → KeepsParentThen (with_bytes_written state number object offset bytes) layout unlinked number (with_sparse_bytes object offset bytes) node entry signature from image
       done-two image last =
-          let same : with_bytes object offset bytes ≡ with_piece (with_piece object n place front) (n + 1) 0 back =
+          let same : with_sparse_bytes object offset bytes ≡ with_piece (with_piece object n place front) (n + 1) 0 back =
           bytes-two object offset n place left bytes covers at rest_is most ∙ ap₂ (λ (f b : List ℕ). with_piece (with_piece object n place f) (n + 1) 0 b) (sym is_front) (sym is_back) in
           let uses : List Item = used (part object.key (n + 1)) (used (part object.key n) state.uses) in
           let states : with_bytes_written state number object offset bytes ≡ with_piece_written (with_piece_written state number object n place front) number (with_piece object n place front) (n + 1) 0 back =
           ap₂ (λ (o : Object) (ns : List ℕ). amidst state number o (used_all (parts_of object ns) state.uses)) same covers
           ∙ ap (λ (slots : List (Option Object)). record state { objects = slots; uses = uses }) (sym (set-twice state.objects number (Some (with_piece object n place front)) (Some (with_piece (with_piece object n place front) (n + 1) 0 back)))) in
-          subst (λ (s : State). KeepsParentThen s layout unlinked number (with_bytes object offset bytes) node entry signature from image) (sym states)
+          subst (λ (s : State). KeepsParentThen s layout unlinked number (with_sparse_bytes object offset bytes) node entry signature from image) (sym states)
           (subst (λ (o : Object). KeepsParentThen (with_piece_written (with_piece_written state number object n place front) number (with_piece object n place front) (n + 1) 0 back) layout unlinked number o node entry signature from image) (sym same)
           (record { now = last.now; parent = last.parent; others = both-others last.now last.others; counters = counters-then from mid image k.counters last.counters; session = session-then from mid image k.session last.session }))
 

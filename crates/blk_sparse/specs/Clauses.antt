@@ -30,7 +30,7 @@ use Rattle.blk_disk.specs.declared.tables.BlockFiles.{BlockFiles}
 use Rattle.blk_disk.specs.Tables.{Agrees, stands_among}
 use Rattle.blk_object.specs.declared.listed_parts.ListedPart.{ListedPart}
 use Rattle.blk_object.specs.declared.owning.Owned.{Owned}
-use Rattle.blk_object.specs.Freeing.{words_at}
+use Rattle.blk_object.specs.Freeing.{words_among}
 use Rattle.blk_object.specs.KeptObjects.{KeptObject}
 use Rattle.blk_object.specs.ListedParts.{SaysPart}
 use Rattle.blk_object.specs.Making.{LeavesRoom}
@@ -61,7 +61,7 @@ use Rattle.blk_sparse.specs.NewParts.{ArePartStreams, ForEachLacking, HasStreams
 use Rattle.blk_sparse.specs.Parents.{AreGoneBeside, ArePartsTold, ForEachHeldParent, ForEachParent, ForEachRest, IsGoneWhole, IsGroupTold, IsHeldWhole, LoadsAsParent}
 use Rattle.blk_sparse.specs.Parts.{FindsBeforeOrAfter, ForEachOfKey, IsPartFound, IsUsed}
 use Rattle.blk_sparse.specs.Reading.{part_bytes, part_run}
-use Rattle.blk_sparse.specs.SparseObjects.{FindsUsed, ForEachGrowing, ForEachKeptParent, KeepsParentThen, KeepsParentUsed, parts_of, parts_used, with_bytes, with_bytes_written, with_piece, with_piece_written, with_signature}
+use Rattle.blk_sparse.specs.SparseObjects.{FindsUsed, ForEachGrowing, ForEachKeptParent, KeepsParentThen, KeepsParentUsed, parts_of, parts_used, with_sparse_bytes, with_bytes_written, with_piece, with_piece_written, with_signature}
 use Rattle.blk_sparse.specs.SparseWrites.{CountsAfter, ForEachToStore, IsCountedThen, IsKeptWithBytes, signature_to, with_parent_used}
 use Rattle.blk_sparse.specs.Writing.{AreInOrder, ForEachGrowingOfKey, IsPieceInOrder}
 
@@ -132,7 +132,7 @@ ForKeyLeft key signature from P = ForEachLeft key (cast_unsigned w64 signature) 
 
 -- P holds of each object with this key whose main item is out, perhaps some parts too, and whose addresses, which were read, are unlinked
 abbrev pub ForOwner : Told → Owned → (key : List ℕ) → IndexedParts → (P : Image → LeftClause) → Type 0
-ForOwner told owned key indexed P = ForSome told.files (λ from. ForEachRest (words_at owned.places) key indexed from (P from))
+ForOwner told owned key indexed P = ForSome told.files (λ from. ForEachRest (words_among owned.places) key indexed from (P from))
 
 -- P holds of each live sparse object with this key, this node and this record that no handle names, where what its record owns was read
 abbrev pub ForRemoval : Told → (key : List ℕ) → (node : ℕ) → Found → Owned → (P : Image → ObjectClause) → Type 0
@@ -287,11 +287,11 @@ HasPieceMeasure signature n end piece from = λ state layout unlinked number obj
 
 -- the object is kept with the bytes
 abbrev pub WritesBytes : (now told : Told) → Parent → SparseBytes → (from : Image) → ObjectClause
-WritesBytes now told parent write from = λ state layout unlinked number object. ForSome now.files (KeepsParentThen (with_bytes_written state number object write.offset write.bytes.now) layout unlinked number (with_bytes object write.offset write.bytes.now) parent.node parent.entry (cast_unsigned w64 parent.signature) from)
+WritesBytes now told parent write from = λ state layout unlinked number object. ForSome now.files (KeepsParentThen (with_bytes_written state number object write.offset write.bytes.now) layout unlinked number (with_sparse_bytes object write.offset write.bytes.now) parent.node parent.entry (cast_unsigned w64 parent.signature) from)
 
 -- the object is kept with the bytes, at its node
 abbrev pub WritesBytesAtNode : (now told : Told) → Parent → SparseBytes → (from : Image) → NodeClause
-WritesBytesAtNode now told parent write from = λ state layout unlinked number object node. ForSome now.files (KeepsParentThen (with_bytes_written state number object write.offset write.bytes.now) layout unlinked number (with_bytes object write.offset write.bytes.now) node parent.entry (cast_unsigned w64 parent.signature) from)
+WritesBytesAtNode now told parent write from = λ state layout unlinked number object node. ForSome now.files (KeepsParentThen (with_bytes_written state number object write.offset write.bytes.now) layout unlinked number (with_sparse_bytes object write.offset write.bytes.now) node parent.entry (cast_unsigned w64 parent.signature) from)
 
 -- the object is kept with the piece, at its node
 abbrev pub WritesPiece : (now told : Told) → Parent → PartBytes → (from : Image) → NodeClause
@@ -495,7 +495,7 @@ BeginsTarget now target from = λ state layout unlinked number object. ForSome n
 
 -- where a state was counted that lacks these items and this cost, the state with the bytes is counted
 abbrev pub CountsBytes : (entries charge : ℕ) → (now told : Told) → Parent → SparseBytes → (from : Image) → ObjectClause
-CountsBytes entries charge now told parent write from = λ state layout unlinked number object. (counted : State) (laid : Layout) → CountsAfter counted laid (with_bytes_written state number object write.offset write.bytes.now) entries charge from → ForSome now.files (IsCountedThen (with_bytes_written state number object write.offset write.bytes.now) layout unlinked number (with_bytes object write.offset write.bytes.now) parent.node parent.entry (cast_unsigned w64 parent.signature) from)
+CountsBytes entries charge now told parent write from = λ state layout unlinked number object. (counted : State) (laid : Layout) → CountsAfter counted laid (with_bytes_written state number object write.offset write.bytes.now) entries charge from → ForSome now.files (IsCountedThen (with_bytes_written state number object write.offset write.bytes.now) layout unlinked number (with_sparse_bytes object write.offset write.bytes.now) parent.node parent.entry (cast_unsigned w64 parent.signature) from)
 
 -- P, a clause on what a call left of the folder and on a write to a target, holds of each object to which the bytes may be written with this rise
 abbrev pub ForStore : Told → Target → SparseBytes → Counted → (P : Told → Target → SparseBytes → Image → State → Layout → ℕ → Object → Type 0) → Type 0

@@ -15,7 +15,7 @@ use Rattle.spec_folder.specs.Loads.{Loaded}
 use Rattle.law_state.specs.Keeping.{KeepsUncounted}
 use Rattle.blk_sparse.specs.declared.measuring.Measured.{Measured}
 use Rattle.blk_sparse.specs.declared.measuring.Piece.{Piece}
-use Rattle.blk_sparse.specs.SparseObjects.{HasPartAt, KeepsParent, missing_parts, value_or_empty, with_bytes}
+use Rattle.blk_sparse.specs.SparseObjects.{HasPartAt, KeepsParent, missing_parts, value_or_empty, with_sparse_bytes}
 
 -- One part.
 
@@ -79,8 +79,8 @@ pub record IsMeasured (layout : Layout) (object : Object) (signature offset coun
 
 -- a write to a sparse object raises its cost and the number of its items by what was measured
 pub record IsRaised (object : Object) (offset : ℕ) (bytes : List ℕ) (found : Measured) : Type 0 where
-  pub charged : charge (with_bytes object offset bytes) ≡ charge object + found.bytes
-  pub counted : item_count (with_bytes object offset bytes) ≡ item_count object + found.items
+  pub charged : charge (with_sparse_bytes object offset bytes) ≡ charge object + found.bytes
+  pub counted : item_count (with_sparse_bytes object offset bytes) ≡ item_count object + found.items
 
 -- a write to a sparse object raises its cost and its number of items as measured, for at most one part's length of bytes
 abbrev pub WritesRaiseAsMeasured : Type 0

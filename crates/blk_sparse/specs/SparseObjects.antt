@@ -118,8 +118,8 @@ abbrev pub with_piece_written : State → ℕ → Object → (n place : ℕ) →
 with_piece_written state number object n place piece = amidst state number (with_piece object n place piece) (used (part object.key n) state.uses)
 
 -- the object with bytes written at an offset of its sparse data
-abbrev pub with_bytes : Object → (offset : ℕ) → List ℕ → Object
-with_bytes object offset bytes = record object { parts = parts_after (covered_parts offset (length bytes)) offset bytes object.parts }
+abbrev pub with_sparse_bytes : Object → (offset : ℕ) → List ℕ → Object
+with_sparse_bytes object offset bytes = record object { parts = parts_after (covered_parts offset (length bytes)) offset bytes object.parts }
 
 -- the items of parts of an object, by their numbers
 abbrev pub parts_of : Object → List ℕ → List Item
@@ -127,7 +127,7 @@ parts_of object ns = map (part object.key) ns
 
 -- the state with bytes written to a sparse object, and the parts in range in front of the LRU list
 abbrev pub with_bytes_written : State → ℕ → Object → (offset : ℕ) → List ℕ → State
-with_bytes_written state number object offset bytes = amidst state number (with_bytes object offset bytes) (used_all (parts_of object (covered_parts offset (length bytes))) state.uses)
+with_bytes_written state number object offset bytes = amidst state number (with_sparse_bytes object offset bytes) (used_all (parts_of object (covered_parts offset (length bytes))) state.uses)
 
 -- Parts that exist.
 

@@ -20,7 +20,7 @@ use Rattle.law_state.specs.ListLaws.{with_used}
 use Rattle.blk_object.specs.Counters.{AreCountedMore, AreMoreItems}
 use Rattle.blk_object.specs.Writing.{IsRiseCounted}
 use Rattle.blk_sparse.specs.declared.storing.Target.{Target}
-use Rattle.blk_sparse.specs.SparseObjects.{KeepsParent, OthersLieAsBefore, missing_parts, parts_of, with_bytes, with_signature}
+use Rattle.blk_sparse.specs.SparseObjects.{KeepsParent, OthersLieAsBefore, missing_parts, parts_of, with_sparse_bytes, with_signature}
 
 -- The object.
 
@@ -64,7 +64,7 @@ with_parent_used state number object signature = amidst state number (with_signa
 
 -- the object, made sparse if it wasn't, with the bytes
 abbrev pub object_written : Object → (signature offset : ℕ) → List ℕ → Object
-object_written object signature offset bytes = with_bytes (with_signature object signature) offset bytes
+object_written object signature offset bytes = with_sparse_bytes (with_signature object signature) offset bytes
 
 -- the state after the write: the object has the bytes, and its main item and then the parts in range were accessed
 abbrev pub sparse_state : State → ℕ → Object → (signature offset : ℕ) → List ℕ → State

@@ -6,7 +6,7 @@ use Rattle.spec_image.specs.Bytes.{range_at}
 use Rattle.spec_image.specs.Image.{File, Image, byte, length_of}
 use Rattle.spec_image.specs.Told.{GivesBytes}
 use Rattle.spec_image.proofs.Words.{length-range}
-use Rattle.blk_window.specs.Held.{Page, is_page, page_in, is_held, without, pages_used, dropped, HoldsFileBytes, IsPageUsed, page_at}
+use Rattle.blk_window.specs.Held.{Page, is_page, page_in, is_held, pages_without, pages_used, pages_dropped, HoldsFileBytes, IsPageUsed, page_at}
 use Rattle.blk_window.specs.Slots.{Copies}
 use Rattle.blk_window.proofs.Lists.{pick, none_of}
 use Rattle.blk_window.proofs.HeldLists.{named}
@@ -40,14 +40,14 @@ all_found P file number (x ∷ held) p all e = pick (is_page file number x)
     (λ hit. subst P (some_page (sym (ap (λ b. cond b (Some x) (page_in file number held)) hit) ∙ e)) (first_of P x held all))
     (λ miss. all_found P file number held p (rest_of P x held all) (sym (ap (λ b. cond b (Some x) (page_in file number held)) miss) ∙ e))
 
-all_without : (P : Page → Type 0) (file : File) (number : ℕ) (held : List Page) → All P held → All P (without file number held)
+all_without : (P : Page → Type 0) (file : File) (number : ℕ) (held : List Page) → All P held → All P (pages_without file number held)
 all_without P file number [] all = all
 all_without P file number (x ∷ held) all = pick (is_page file number x)
-    (λ hit. subst (All P) (ap (λ b. if b then held else x ∷ without file number held) (sym hit)) (rest_of P x held all))
-    (λ miss. subst (All P) (ap (λ b. if b then held else x ∷ without file number held) (sym miss)) (All-cons P x (without file number held) (first_of P x held all) (all_without P file number held (rest_of P x held all))))
+    (λ hit. subst (All P) (ap (λ b. if b then held else x ∷ pages_without file number held) (sym hit)) (rest_of P x held all))
+    (λ miss. subst (All P) (ap (λ b. if b then held else x ∷ pages_without file number held) (sym miss)) (All-cons P x (pages_without file number held) (first_of P x held all) (all_without P file number held (rest_of P x held all))))
 
 pub all_used : (P : Page → Type 0) (places : ℕ) (p : Page) (held : List Page) → P p → All P held → All P (pages_used places p held)
-all_used P places p held one all = All-cons P p (take (places - 1) (without p.file p.number held)) one (All-take P (places - 1) (without p.file p.number held) (all_without P p.file p.number held all))
+all_used P places p held one all = All-cons P p (take (places - 1) (pages_without p.file p.number held)) one (All-take P (places - 1) (pages_without p.file p.number held) (all_without P p.file p.number held all))
 
 -- whether a page is held is whether it is found
 pub held_found : (file : File) (number : ℕ) (held : List Page) → is_held file number held ≡ true → (p : Page) × (page_in file number held ≡ Some p)
@@ -65,11 +65,11 @@ not_found file number (x ∷ held) e =
     let parts = none_of (is_page file number x) (is_held file number held) e in
     ap (λ b. cond b (Some x) (page_in file number held)) parts.0 ∙ not_found file number held parts.1
 
-pub without_absent : (file : File) (number : ℕ) (held : List Page) → is_held file number held ≡ false → without file number held ≡ held
+pub without_absent : (file : File) (number : ℕ) (held : List Page) → is_held file number held ≡ false → pages_without file number held ≡ held
 without_absent file number [] e = refl
 without_absent file number (x ∷ held) e =
     let parts = none_of (is_page file number x) (is_held file number held) e in
-    ap (λ b. if b then held else x ∷ without file number held) parts.0 ∙ ap (λ l. x ∷ l) (without_absent file number held parts.1)
+    ap (λ b. if b then held else x ∷ pages_without file number held) parts.0 ∙ ap (λ l. x ∷ l) (without_absent file number held parts.1)
 
 -- the page that is found is the one that is used
 pub used_found : (file : File) (number : ℕ) (held : List Page) (p : Page) → page_in file number held ≡ Some p → IsPageUsed file number held p
@@ -79,10 +79,10 @@ pub used_new : (file : File) (number : ℕ) (held : List Page) (p : Page) → is
 used_new file number held p missing is = record { named = is; same = λ one there. none_some (sym (not_found file number held missing) ∙ there) }
 
 -- a new page before those that are left
-pub new_front : (file : File) (number places : ℕ) (held : List Page) (p : Page) → is_held file number held ≡ false → is_page file number p ≡ true → p ∷ dropped places held ≡ pages_used places p held
+pub new_front : (file : File) (number places : ℕ) (held : List Page) (p : Page) → is_held file number held ≡ false → is_page file number p ≡ true → p ∷ pages_dropped places held ≡ pages_used places p held
 new_front file number places held p missing is =
     let name = named file number p is in
-    ap (λ l. p ∷ take (places - 1) l) (sym (ap (λ f. without f p.number held) name.0 ∙ ap (λ n. without file n held) name.1 ∙ without_absent file number held missing))
+    ap (λ l. p ∷ take (places - 1) l) (sym (ap (λ f. pages_without f p.number held) name.0 ∙ ap (λ n. pages_without file n held) name.1 ∙ without_absent file number held missing))
 
 -- a part of a range
 part_of : (f : ℕ → ℕ) (n from i m : ℕ) → from + n ≤ m → take n (drop from (range_at f i m)) ≡ range_at f (i + from) n

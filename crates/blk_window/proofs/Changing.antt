@@ -15,7 +15,7 @@ use Rattle.spec_image.proofs.Images.{with_file-other, with_file-same, same_file-
 use Rattle.spec_image.proofs.Runs.{along_prefix}
 use Rattle.spec_image.proofs.Splices.{length-spliced, spliced-none}
 use Rattle.spec_image.proofs.Words.{range-is, length-range}
-use Rattle.blk_window.specs.Held.{Page, HoldsFileBytes, unless_of, reaches, page_overwritten, written, rewritten}
+use Rattle.blk_window.specs.Held.{Page, HoldsFileBytes, unless_of, reaches, page_overwritten, page_after_write, rewritten}
 use Rattle.blk_window.proofs.Lists.{pick}
 use Rattle.blk_window.proofs.Overwriting.{take-spliced}
 
@@ -122,9 +122,9 @@ others_stay : (file : File) (at : ℕ) (bytes : List ℕ) (image : Image) (other
 others_stay file at bytes image other apart = ap (λ (i : Image). i other) (after-words file at bytes image) ∙ with_file-other image file other (written_over at bytes (image file)) (same_file-swap other file apart)
 
 -- after a write the pages that are left agree
-pub agree_written : (file : File) (at : ℕ) (bytes : List ℕ) (held : List Page) (image : Image) → All (HoldsFileBytes image) held → All (HoldsFileBytes (after (words file at bytes) image)) (filter_map (written file at bytes) held)
+pub agree_written : (file : File) (at : ℕ) (bytes : List ℕ) (held : List Page) (image : Image) → All (HoldsFileBytes image) held → All (HoldsFileBytes (after (words file at bytes) image)) (filter_map (page_after_write file at bytes) held)
 agree_written file at bytes [] image all = λ k d within. absurd (omega arith)
-agree_written file at bytes (page ∷ held) image all = by_page (agree_written file at bytes held image (rest_of (HoldsFileBytes image) page held all)) (written file at bytes page) refl
+agree_written file at bytes (page ∷ held) image all = by_page (agree_written file at bytes held image (rest_of (HoldsFileBytes image) page held all)) (page_after_write file at bytes page) refl
   where
     new : Image
     new = after (words file at bytes) image
@@ -141,7 +141,7 @@ agree_written file at bytes (page ∷ held) image all = by_page (agree_written f
         clash : {p : Page} → None ≡ Some p → ⊥
         clash c = cc
 
-    one : (p : Page) → written file at bytes page ≡ Some p → HoldsFileBytes new p
+    one : (p : Page) → page_after_write file at bytes page ≡ Some p → HoldsFileBytes new p
     one p is = pick (same_file page.file file)
         (λ hit. let e = sym (ap (λ b. if b then (if reaches (at + length bytes) page then Some (page_overwritten at bytes page) else None) else Some page) hit) ∙ is in
         pick (reaches (at + length bytes) page)
@@ -149,20 +149,20 @@ agree_written file at bytes (page ∷ held) image all = by_page (agree_written f
         (λ cut. never (sym (ap (λ b. if b then Some (page_overwritten at bytes page) else None) cut) ∙ e)))
         (λ miss. subst (HoldsFileBytes new) (inj (sym (ap (λ b. if b then (if reaches (at + length bytes) page then Some (page_overwritten at bytes page) else None) else Some page) miss) ∙ is)) (same_there image new page (others_stay file at bytes image page.file miss) first))
 
-    by_page : All (HoldsFileBytes new) (filter_map (written file at bytes) held) → (o : Option Page) → written file at bytes page ≡ o → All (HoldsFileBytes new) (cons_option (written file at bytes page) (filter_map (written file at bytes) held))
-    by_page more None is = subst (λ o. All (HoldsFileBytes new) (cons_option o (filter_map (written file at bytes) held))) (sym is) more
-    by_page more (Some p) is = subst (λ o. All (HoldsFileBytes new) (cons_option o (filter_map (written file at bytes) held))) (sym is) (All-cons (HoldsFileBytes new) p (filter_map (written file at bytes) held) (one p is) more)
+    by_page : All (HoldsFileBytes new) (filter_map (page_after_write file at bytes) held) → (o : Option Page) → page_after_write file at bytes page ≡ o → All (HoldsFileBytes new) (cons_option (page_after_write file at bytes page) (filter_map (page_after_write file at bytes) held))
+    by_page more None is = subst (λ o. All (HoldsFileBytes new) (cons_option o (filter_map (page_after_write file at bytes) held))) (sym is) more
+    by_page more (Some p) is = subst (λ o. All (HoldsFileBytes new) (cons_option o (filter_map (page_after_write file at bytes) held))) (sym is) (All-cons (HoldsFileBytes new) p (filter_map (page_after_write file at bytes) held) (one p is) more)
 
 -- where the range lies inside its file no page is dropped
-pub none_dropped : (file : File) (at : ℕ) (bytes : List ℕ) (held : List Page) (image : Image) → HasRange image file at (length bytes) → All (HoldsFileBytes image) held → filter_map (written file at bytes) held ≡ map (rewritten file at bytes) held
+pub none_dropped : (file : File) (at : ℕ) (bytes : List ℕ) (held : List Page) (image : Image) → HasRange image file at (length bytes) → All (HoldsFileBytes image) held → filter_map (page_after_write file at bytes) held ≡ map (rewritten file at bytes) held
 none_dropped file at bytes [] image inside all = refl
 none_dropped file at bytes (page ∷ held) image inside all =
     let more = none_dropped file at bytes held image inside (rest_of (HoldsFileBytes image) page held all) in
     pick (same_file page.file file)
-    (λ hit. ap (λ b. cons_option (if b then (if reaches (at + length bytes) page then Some (page_overwritten at bytes page) else None) else Some page) (filter_map (written file at bytes) held)) hit
-    ∙ ap (λ b. cons_option (if b then Some (page_overwritten at bytes page) else None) (filter_map (written file at bytes) held)) (reached (same_file-true page.file file hit))
+    (λ hit. ap (λ b. cons_option (if b then (if reaches (at + length bytes) page then Some (page_overwritten at bytes page) else None) else Some page) (filter_map (page_after_write file at bytes) held)) hit
+    ∙ ap (λ b. cons_option (if b then Some (page_overwritten at bytes page) else None) (filter_map (page_after_write file at bytes) held)) (reached (same_file-true page.file file hit))
     ∙ ap (λ l. page_overwritten at bytes page ∷ l) more ∙ ap (λ b. (if b then page_overwritten at bytes page else page) ∷ map (rewritten file at bytes) held) (sym hit))
-    (λ miss. ap (λ b. cons_option (if b then (if reaches (at + length bytes) page then Some (page_overwritten at bytes page) else None) else Some page) (filter_map (written file at bytes) held)) miss
+    (λ miss. ap (λ b. cons_option (if b then (if reaches (at + length bytes) page then Some (page_overwritten at bytes page) else None) else Some page) (filter_map (page_after_write file at bytes) held)) miss
     ∙ ap (λ l. page ∷ l) more ∙ ap (λ b. (if b then page_overwritten at bytes page else page) ∷ map (rewritten file at bytes) held) (sym miss))
   where
     size : length page.bytes ≡ min 4096 (length_of image page.file - 4096 * page.number)

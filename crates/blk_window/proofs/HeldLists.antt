@@ -10,7 +10,7 @@ use Rattle.std.proofs.Math.Seq.{take-append_seam}
 use Rattle.std.proofs.lemmas.Map.Keys.{IsDistinct-head, IsDistinct-tail}
 use Rattle.spec_image.specs.Image.{File, same_file}
 use Rattle.spec_image.proofs.Images.{same_file-true}
-use Rattle.blk_window.specs.Held.{Page, is_page, page_in, is_held, without, pages_used, dropped}
+use Rattle.blk_window.specs.Held.{Page, is_page, page_in, is_held, pages_without, pages_used, pages_dropped}
 use Rattle.std.proofs.lemmas.Map.{keys-set_value}
 use Rattle.std.proofs.lemmas.Map.Steps.{set_value_same}
 use Rattle.blk_window.proofs.Lists.{pick, none_of, is_number, Split, split, AreSlots, Found, found, split_found, apart, lookup-split, moved, moved_and_set, set_in_place, slots_moved, slots_same, keys_moved}
@@ -72,11 +72,11 @@ module _ {V : Type 0} (see : V → Option Page) where
       let parts = none_of (is_page file number p) (is_held file number l) none in
       ap (λ b. cond b (Some p) (page_in file number (l ++ m))) parts.0 ∙ skip_in file number l m parts.1
 
-  pub skip_without : (file : File) (number : ℕ) (l m : List Page) → is_held file number l ≡ false → without file number (l ++ m) ≡ l ++ without file number m
+  pub skip_without : (file : File) (number : ℕ) (l m : List Page) → is_held file number l ≡ false → pages_without file number (l ++ m) ≡ l ++ pages_without file number m
   skip_without file number [] m none = refl
   skip_without file number (p ∷ l) m none =
       let parts = none_of (is_page file number p) (is_held file number l) none in
-      ap (λ b. if b then l ++ m else p ∷ without file number (l ++ m)) parts.0 ∙ ap (λ k. p ∷ k) (skip_without file number l m parts.1)
+      ap (λ b. if b then l ++ m else p ∷ pages_without file number (l ++ m)) parts.0 ∙ ap (λ k. p ∷ k) (skip_without file number l m parts.1)
 
   -- a slot that shows a page holds it
   pub shown : (file : File) (number : ℕ) (v : V) → shows file number v ≡ true → (p : Page) × (see v ≡ Some p) × (is_page file number p ≡ true)
@@ -107,11 +107,11 @@ module _ {V : Type 0} (see : V → Option Page) where
       whole : held es ≡ held f.front ++ p ∷ held f.behind
       whole = ap held f.is ∙ held-append f.front (slot ∷ f.behind) ∙ ap (λ o. held f.front ++ cons_option o (held f.behind)) sees
 
-      gone : without p.file p.number (held es) ≡ held f.front ++ held f.behind
+      gone : pages_without p.file p.number (held es) ≡ held f.front ++ held f.behind
       gone =
           let name = named file number p is in
-          ap (λ g. without g p.number (held es)) name.0 ∙ ap (λ n. without file n (held es)) name.1 ∙ ap (without file number) whole ∙ skip_without file number (held f.front) (p ∷ held f.behind) none
-          ∙ ap (λ b. held f.front ++ (if b then held f.behind else p ∷ without file number (held f.behind))) is
+          ap (λ g. pages_without g p.number (held es)) name.0 ∙ ap (λ n. pages_without file n (held es)) name.1 ∙ ap (pages_without file number) whole ∙ skip_without file number (held f.front) (p ∷ held f.behind) none
+          ∙ ap (λ b. held f.front ++ (if b then held f.behind else p ∷ pages_without file number (held f.behind))) is
 
       room : length (held f.front ++ held f.behind) ≤ places - 1
       room = omega (arith, fewer f.front, fewer f.behind, count, length-append (held f.front) (held f.behind), ap length f.is, length-append f.front (slot ∷ f.behind))
@@ -157,7 +157,7 @@ module _ {V : Type 0} (see : V → Option Page) where
       deeper holds g = record { front = e ∷ g.front; value = g.value; behind = g.behind; is = ap (λ l. e ∷ l) g.is; full = something (see e.1) (held g.front) holds ∙ ap suc g.full; last = g.last }
 
   -- once it holds nothing, the page that was evicted isn't held
-  pub makes_room : (places k : ℕ) (es : List (ℕ × V)) (w : V) (g : GivesWay es k) → length es ≡ places → see w ≡ None → held (g.front ++ (k, w) ∷ g.behind) ≡ dropped places (held es)
+  pub makes_room : (places k : ℕ) (es : List (ℕ × V)) (w : V) (g : GivesWay es k) → length es ≡ places → see w ≡ None → held (g.front ++ (k, w) ∷ g.behind) ≡ pages_dropped places (held es)
   makes_room places k es w g count empty =
       held-append g.front ((k, w) ∷ g.behind) ∙ ap (λ o. held g.front ++ cons_option o (held g.behind)) empty ∙ by_last g.last
     where
@@ -371,7 +371,7 @@ module _ {V : Type 0} (see : V → Option Page) where
   pub record Gives (places k : ℕ) (es : List (ℕ × V)) : Type 0 where
     pub value : V
     pub there : lookup (nat_eq k) es ≡ Some value
-    pub room : (w : V) → see w ≡ None → filter_map (λ slot. see slot.1) (set_value (nat_eq k) es w) ≡ dropped places (filter_map (λ slot. see slot.1) es)
+    pub room : (w : V) → see w ≡ None → filter_map (λ slot. see slot.1) (set_value (nat_eq k) es w) ≡ pages_dropped places (filter_map (λ slot. see slot.1) es)
     pub free : (w : V) → see w ≡ None → option_map see (lookup (nat_eq k) (set_value (nat_eq k) es w)) ≡ Some None
 
   pub gives : (places k : ℕ) (es : List (ℕ × V)) → AreSlots places es → 0 < places → k ≡ giving_way see 0 es → Gives places k es

@@ -7,7 +7,7 @@ use Rattle.spec_image.specs.Bytes.{spliced}
 use Rattle.spec_image.specs.Image.{File, same_file}
 use Rattle.spec_image.proofs.Splices.{spliced-none}
 use Rattle.blk_io.proofs.Splicing.{spliced-past}
-use Rattle.blk_window.specs.Held.{Page, is_page, reaches, page_overwritten, unless_of, written}
+use Rattle.blk_window.specs.Held.{Page, is_page, reaches, page_overwritten, unless_of, page_after_write}
 use Rattle.blk_window.proofs.Lists.{pick, none_of}
 
 -- the first bytes of what is written over
@@ -24,7 +24,7 @@ abbrev pub slot_of : Bool → File → ℕ → List ℕ → Option Page
 slot_of held file number bytes = if held then Some (record { file = file; number = number; bytes = bytes }) else None
 
 pub overwrites : (held : Bool) (of file : File) (number count at : ℕ) (items bytes new : List ℕ) → same_file of file ≡ true → ForSome (slot_of held of number (take count items)) (λ page. true ≡ reaches (at + length bytes) page)
-    → new ≡ spliced (at - 4096 * number) (drop (4096 * number - at) bytes) items → slot_of held of number (take count new) ≡ option_and_then (written file at bytes) (slot_of held of number (take count items))
+    → new ≡ spliced (at - 4096 * number) (drop (4096 * number - at) bytes) items → slot_of held of number (take count new) ≡ option_and_then (page_after_write file at bytes) (slot_of held of number (take count items))
 overwrites false of file number count at items bytes new same there is = refl
 overwrites true of file number count at items bytes new same there is =
     let page : Page = record { file = of; number = number; bytes = take count items } in
@@ -33,7 +33,7 @@ overwrites true of file number count at items bytes new same there is =
     ∙ ap (λ b. if b then (if reaches (at + length bytes) page then Some (page_overwritten at bytes page) else None) else Some page) (sym same)
 
 pub cut_off : (held : Bool) (of file : File) (number at : ℕ) (kept bytes : List ℕ) → same_file of file ≡ true → ForSome (slot_of held of number kept) (λ page. false ≡ reaches (at + length bytes) page)
-    → None ≡ option_and_then (written file at bytes) (slot_of held of number kept)
+    → None ≡ option_and_then (page_after_write file at bytes) (slot_of held of number kept)
 cut_off false of file number at kept bytes same there = refl
 cut_off true of file number at kept bytes same there =
     let page : Page = record { file = of; number = number; bytes = kept } in
@@ -55,7 +55,7 @@ apart_from start count at items bytes apart = pick (nat_lt (at - start) count)
 
 -- a slot that a write doesn't touch is left as it is
 pub untouched : (held : Bool) (of file : File) (number count at : ℕ) (items bytes : List ℕ) → (nat_lt (at - 4096 * number) count && nat_lt (4096 * number - at) (length bytes)) ≡ false
-    → ForSome (slot_of held of number (take count items)) (λ page. true ≡ reaches (at + length bytes) page) → option_and_then (written file at bytes) (slot_of held of number (take count items)) ≡ slot_of held of number (take count items)
+    → ForSome (slot_of held of number (take count items)) (λ page. true ≡ reaches (at + length bytes) page) → option_and_then (page_after_write file at bytes) (slot_of held of number (take count items)) ≡ slot_of held of number (take count items)
 untouched false of file number count at items bytes apart there = refl
 untouched true of file number count at items bytes apart there = by_file (same_file of file)
   where
@@ -91,7 +91,7 @@ reaches_by held of number count at n items answer whole within is = λ page ther
 -- a slot is left as it is by a write that doesn't touch it, as its tag says
 pub left_by_write : (held : Bool) (of file : File) (number count at : ℕ) (items bytes : List ℕ) → length items ≡ 4096 → count ≤ 4096
     → ((held && same_file of file) && ((nat_lt (at - number * 4096) count && nat_lt (number * 4096 - at) (length bytes)) || not (nat_le 4096 count || nat_le (at + length bytes) (number * 4096 + count)))) ≡ false
-    → option_and_then (written file at bytes) (slot_of held of number (take count items)) ≡ slot_of held of number (take count items)
+    → option_and_then (page_after_write file at bytes) (slot_of held of number (take count items)) ≡ slot_of held of number (take count items)
 left_by_write false of file number count at items bytes whole within left = refl
 left_by_write true of file number count at items bytes whole within left = pick (same_file of file)
     (λ same.
@@ -137,10 +137,10 @@ fewer : (change : Page → Option Page) (file : File) (number : ℕ) → ((p : P
 fewer change file number keeps None new is shows = clashes (sym (ap (λ o. option_map_or (is_page file number) o false) is) ∙ shows)
 fewer change file number keeps (Some p) new is shows = keeps p (sym (ap (λ o. option_map_or (is_page file number) o false) is) ∙ shows)
 
-pub fewer_by_write : (of : File) (at : ℕ) (bytes : List ℕ) (old new : Option Page) → new ≡ option_and_then (written of at bytes) old → (file : File) (number : ℕ) → option_map_or (is_page file number) new false ≡ true → option_map_or (is_page file number) old false ≡ true
-fewer_by_write of at bytes old new is file number = fewer (written of at bytes) file number keeps old new is
+pub fewer_by_write : (of : File) (at : ℕ) (bytes : List ℕ) (old new : Option Page) → new ≡ option_and_then (page_after_write of at bytes) old → (file : File) (number : ℕ) → option_map_or (is_page file number) new false ≡ true → option_map_or (is_page file number) old false ≡ true
+fewer_by_write of at bytes old new is file number = fewer (page_after_write of at bytes) file number keeps old new is
   where
-    keeps : (p : Page) → option_map_or (is_page file number) (written of at bytes p) false ≡ true → is_page file number p ≡ true
+    keeps : (p : Page) → option_map_or (is_page file number) (page_after_write of at bytes p) false ≡ true → is_page file number p ≡ true
     keeps p shows = by_tests (same_file p.file of) (reaches (at + length bytes) p) shows
       where
         by_tests : (same reach : Bool) → option_map_or (is_page file number) (if same then (if reach then Some (page_overwritten at bytes p) else None) else Some p) false ≡ true → is_page file number p ≡ true

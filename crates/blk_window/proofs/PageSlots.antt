@@ -6,10 +6,10 @@ use Rattle.blk_io.specs.FileNames.{file_of}
 use Rattle.blk_window.specs.declared.page.Page.{Page}
 use Rattle.blk_window.specs.declared.pages.Pages.{Pages}
 use Rattle.blk_window.specs.declared.tag.Tag.{Tag}
-use Rattle.blk_window.specs.Held.{unless_of, written}
+use Rattle.blk_window.specs.Held.{unless_of, page_after_write}
 use Rattle.blk_window.specs.Slots.{seen, shows}
-use Rattle.blk_window.specs.Pages.{held_of, places_of}
-use Rattle.blk_window.specs.Tags.{has_name, is_of, touches}
+use Rattle.blk_window.specs.Pages.{held_of, places_of_pages}
+use Rattle.blk_window.specs.Tags.{has_name, is_tag_of, touches}
 use Rattle.blk_window.proofs.Lists.{AreSlots}
 use Rattle.blk_window.proofs.HeldLists.{fewer}
 use Rattle.blk_window.proofs.Overwriting.{name_shown, left_by_write, left_by_drop}
@@ -19,7 +19,7 @@ pub slots_of : (p : Pages) → AreSlots p.slots.cap p.slots.entries
 slots_of p = record { count = p.count; distinct = p.distinct; below = p.below }
 
 -- no more pages are held than there are slots
-pub few_held : (p : Pages) → length (held_of p) ≤ places_of p
+pub few_held : (p : Pages) → length (held_of p) ≤ places_of_pages p
 few_held p = omega (arith, fewer seen p.slots.entries, p.count)
 
 abbrev pub tag_in : Page → Tag
@@ -48,11 +48,11 @@ refused p test k tag page is there fails = passes_at (λ page. test (tag_in page
 -- the slot of a tag that isn't touched is left as it is
 pub untouched_slot : (p : Pages) (file : File) (at : ℕ) (bytes : List ℕ) (k : ℕ) (tag : Tag) → Some tag ≡ slice_get p.tags.items k
     → touches file at (length bytes) tag ≡ false → (page : Page) → lookup (nat_eq k) p.slots.entries ≡ Some page
-    → option_and_then (written file at bytes) (seen page) ≡ seen page
+    → option_and_then (page_after_write file at bytes) (seen page) ≡ seen page
 untouched_slot p file at bytes k tag is fails page there =
     left_by_write page.tag.is_held (file_of page.tag.file) file page.tag.number page.tag.count at page.bytes.items bytes page.whole page.tag.within (refused p (touches file at (length bytes)) k tag page is there fails)
 
 -- the slot of a tag of another file is left as it is
-pub other_slot : (p : Pages) (file : File) (k : ℕ) (tag : Tag) → Some tag ≡ slice_get p.tags.items k → is_of file tag ≡ false → (page : Page)
+pub other_slot : (p : Pages) (file : File) (k : ℕ) (tag : Tag) → Some tag ≡ slice_get p.tags.items k → is_tag_of file tag ≡ false → (page : Page)
     → lookup (nat_eq k) p.slots.entries ≡ Some page → option_and_then (unless_of file) (seen page) ≡ seen page
-other_slot p file k tag is fails page there = left_by_drop page.tag.is_held (file_of page.tag.file) file page.tag.number _ (refused p (is_of file) k tag page is there fails)
+other_slot p file k tag is fails page there = left_by_drop page.tag.is_held (file_of page.tag.file) file page.tag.number _ (refused p (is_tag_of file) k tag page is there fails)

@@ -6,7 +6,7 @@ use Rattle.std.proofs.lemmas.List.{length-append, take_all}
 use Rattle.std.proofs.lemmas.List.Elements.{All-append, All-cons}
 use Rattle.spec_image.specs.Image.{File, same_file}
 use Rattle.spec_image.proofs.Images.{same_file-refl}
-use Rattle.blk_window.specs.Held.{Page, is_page, is_full_page, page_in, is_held, without, pages_used, dropped, page_at, pages_of, IsPageUsed, UsesEach, AreUpTo, ReadsThrough, FailsBehind, AreHeld, HoldsRange}
+use Rattle.blk_window.specs.Held.{Page, is_page, is_full_page, page_in, is_held, pages_without, pages_used, pages_dropped, page_at, pages_of, IsPageUsed, UsesEach, AreUpTo, ReadsThrough, FailsBehind, AreHeld, HoldsRange}
 use Rattle.blk_window.specs.Reading.{ReadsPage}
 use Rattle.blk_window.proofs.Lists.{pick}
 use Rattle.blk_window.proofs.HeldLists.{named}
@@ -171,7 +171,7 @@ asks_nothing places file at n old none = record {
 }
 
 -- a page could not be read
-pub fails : (places : ℕ) (file : File) (at n given : ℕ) (old now new : List Page) → Progress places file at n given old now → is_held file (page_at (at + given)) now ≡ false → new ≡ dropped places now → FailsBehind places file at n old new
+pub fails : (places : ℕ) (file : File) (at n given : ℕ) (old now new : List Page) → Progress places file at n given old now → is_held file (page_at (at + given)) now ≡ false → new ≡ pages_dropped places now → FailsBehind places file at n old new
 fails places file at n given old now new p missing drops = record {
   pages = p.pages;
   full = p.full;
@@ -198,21 +198,21 @@ found_held file number (x ∷ held) p e = pick (is_page file number x)
     (λ miss. ap (λ b. b || is_held file number held) miss ∙ found_held file number held p (sym (ap (λ b. cond b (Some x) (page_in file number held)) miss) ∙ e))
 
 -- one page fewer
-length_without : (file : File) (number : ℕ) (held : List Page) (p : Page) → page_in file number held ≡ Some p → length (without file number held) + 1 ≡ length held
+length_without : (file : File) (number : ℕ) (held : List Page) (p : Page) → page_in file number held ≡ Some p → length (pages_without file number held) + 1 ≡ length held
 length_without file number [] p e = absurd (never e)
   where
     never : None ≡ Some p → ⊥
     never c = cc
 length_without file number (x ∷ held) p e = pick (is_page file number x)
-    (λ hit. omega (arith, ap (λ b. length (if b then held else x ∷ without file number held)) hit))
-    (λ miss. omega (arith, ap (λ b. length (if b then held else x ∷ without file number held)) miss, length_without file number held p (sym (ap (λ b. cond b (Some x) (page_in file number held)) miss) ∙ e)))
+    (λ hit. omega (arith, ap (λ b. length (if b then held else x ∷ pages_without file number held)) hit))
+    (λ miss. omega (arith, ap (λ b. length (if b then held else x ∷ pages_without file number held)) miss, length_without file number held p (sym (ap (λ b. cond b (Some x) (page_in file number held)) miss) ∙ e)))
 
 -- a search for a page that isn't the one that was taken away
-without_keeps : (file : File) (a b : ℕ) (held : List Page) → (a == b) ≡ false → page_in file b (without file a held) ≡ page_in file b held
+without_keeps : (file : File) (a b : ℕ) (held : List Page) → (a == b) ≡ false → page_in file b (pages_without file a held) ≡ page_in file b held
 without_keeps file a b [] other = refl
 without_keeps file a b (x ∷ held) other = pick (is_page file a x)
-    (λ hit. ap (λ c. page_in file b (if c then held else x ∷ without file a held)) hit ∙ sym (ap (λ c. cond c (Some x) (page_in file b held)) (apart hit)))
-    (λ miss. ap (λ c. page_in file b (if c then held else x ∷ without file a held)) miss ∙ ap (λ o. cond (is_page file b x) (Some x) o) (without_keeps file a b held other))
+    (λ hit. ap (λ c. page_in file b (if c then held else x ∷ pages_without file a held)) hit ∙ sym (ap (λ c. cond c (Some x) (page_in file b held)) (apart hit)))
+    (λ miss. ap (λ c. page_in file b (if c then held else x ∷ pages_without file a held)) miss ∙ ap (λ o. cond (is_page file b x) (Some x) o) (without_keeps file a b held other))
   where
     apart : is_page file a x ≡ true → is_page file b x ≡ false
     apart hit = ap (λ k. same_file x.file file && (k == b)) (named file a x hit).1 ∙ ap (λ c. same_file x.file file && c) other ∙ and_false (same_file x.file file)
@@ -236,9 +236,9 @@ held_stays places file m k now x q few there e = of_name (named file m x is).0 (
 
     of_name : x.file ≡ file → x.number ≡ m → page_in file k (pages_used places x now) ≡ Some q
     of_name same number = pick (is_page file k x)
-        (λ hit. ap (λ c. cond c (Some x) (page_in file k (take (places - 1) (without x.file x.number now)))) hit ∙ sym there ∙ ap (λ j. page_in file j now) (sym number ∙ (named file k x hit).1) ∙ e)
-        (λ miss. ap (λ c. cond c (Some x) (page_in file k (take (places - 1) (without x.file x.number now)))) miss
-        ∙ ap (page_in file k) (ap (λ f. take (places - 1) (without f x.number now)) same ∙ ap (λ j. take (places - 1) (without file j now)) number ∙ take_all (places - 1) (without file m now) (omega (arith, few, length_without file m now x there)))
+        (λ hit. ap (λ c. cond c (Some x) (page_in file k (take (places - 1) (pages_without x.file x.number now)))) hit ∙ sym there ∙ ap (λ j. page_in file j now) (sym number ∙ (named file k x hit).1) ∙ e)
+        (λ miss. ap (λ c. cond c (Some x) (page_in file k (take (places - 1) (pages_without x.file x.number now)))) miss
+        ∙ ap (page_in file k) (ap (λ f. take (places - 1) (pages_without f x.number now)) same ∙ ap (λ j. take (places - 1) (pages_without file j now)) number ∙ take_all (places - 1) (pages_without file m now) (omega (arith, few, length_without file m now x there)))
         ∙ without_keeps file m k now (other same number miss) ∙ e)
 
 all_stay : (places : ℕ) (file : File) (m number : ℕ) (rest now : List Page) (x : Page) → length now ≤ places → page_in file m now ≡ Some x → AreHeld file number rest now → AreHeld file number rest (pages_used places x now)

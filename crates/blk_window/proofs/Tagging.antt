@@ -5,7 +5,7 @@ use Rattle.std.specs.List.{All, find, list_any}
 use Rattle.std.specs.Map.{keys_of, lookup, set_value}
 use Rattle.std.proofs.lemmas.Bool.Decides.{nat_tests}
 use Rattle.spec_image.specs.Image.{File}
-use Rattle.blk_window.specs.Held.{Page, is_page, is_held, dropped}
+use Rattle.blk_window.specs.Held.{Page, is_page, is_held, pages_dropped}
 use Rattle.blk_window.proofs.Lists.{pick, none_of, same_number, is_number, Split, split, AreSlots, Found, found, split_found, lookup-split, moved, moved_and_set, set_in_place}
 use Rattle.blk_window.proofs.HeldLists.{named, shown, held, held_is}
 
@@ -291,8 +291,8 @@ any_take test (suc k) (p ∷ l) none = let parts = none_of (test p) (list_any te
 
 -- a page that wasn't held isn't after one was dropped
 pub still_missing : (file : File) (number places : ℕ) (l : List Page) (p : Page) → is_held file number l ≡ false → is_page file number p ≡ true
-    → is_held p.file p.number (dropped places l) ≡ false
+    → is_held p.file p.number (pages_dropped places l) ≡ false
 still_missing file number places l p none is =
     let name = named file number p is in
-    ap (λ f. is_held f p.number (dropped places l)) name.0 ∙ ap (λ n. is_held file n (dropped places l)) name.1
+    ap (λ f. is_held f p.number (pages_dropped places l)) name.0 ∙ ap (λ n. is_held file n (pages_dropped places l)) name.1
     ∙ any_take (is_page file number) (places - 1) l none

@@ -40,17 +40,17 @@ abbrev pub is_held : File → ℕ → List Page → Bool
 is_held file number held = list_any (is_page file number) held
 
 -- the pages but that of this file with this number
-abbrev pub without : File → ℕ → List Page → List Page
-without file number [] = []
-without file number (page ∷ held) = if is_page file number page then held else page ∷ without file number held
+abbrev pub pages_without : File → ℕ → List Page → List Page
+pages_without file number [] = []
+pages_without file number (page ∷ held) = if is_page file number page then held else page ∷ pages_without file number held
 
 -- the pages after an access to this one: it is the first now, and if the cache was full and hadn't it, the last one was evicted
 abbrev pub pages_used : ℕ → Page → List Page → List Page
-pages_used places page held = page ∷ take (places - 1) (without page.file page.number held)
+pages_used places page held = page ∷ take (places - 1) (pages_without page.file page.number held)
 
 -- the pages after a failed read of a page: if the cache was full, its last page was evicted
-abbrev pub dropped : ℕ → List Page → List Page
-dropped places held = take (places - 1) held
+abbrev pub pages_dropped : ℕ → List Page → List Page
+pages_dropped places held = take (places - 1) held
 
 -- the page is that of this file with this number, and the same as the cache has, if it has it
 pub record IsPageUsed (file : File) (number : ℕ) (held : List Page) (page : Page) : Type 0 where
@@ -92,7 +92,7 @@ pub record FailsBehind (places : ℕ) (file : File) (place n : ℕ) (old new : L
   pub between : List Page
   pub uses : UsesEach places file (page_at place) pages old between
   pub missing : is_held file (page_at place + length pages) between ≡ false
-  pub drops : new ≡ dropped places between
+  pub drops : new ≡ pages_dropped places between
 
 -- the cache has all these pages of a file, by rising number from `number` on
 abbrev pub AreHeld : File → ℕ → List Page → List Page → Type 0
@@ -126,6 +126,6 @@ abbrev pub rewritten : File → ℕ → List ℕ → Page → Page
 rewritten file place bytes page = if same_file page.file file then page_overwritten place bytes page else page
 
 -- the page after a write of bytes at `place` of this file, or None where it ends before the new bytes do (its file may have grown)
-abbrev pub written : File → ℕ → List ℕ → Page → Option Page
-written file place bytes page =
+abbrev pub page_after_write : File → ℕ → List ℕ → Page → Option Page
+page_after_write file place bytes page =
     if same_file page.file file then (if reaches (place + length bytes) page then Some (page_overwritten place bytes page) else None) else Some page

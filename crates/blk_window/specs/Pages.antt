@@ -11,8 +11,8 @@ abbrev pub held_of : Pages → List held.Page
 held_of pages = held_in pages.slots.entries
 
 -- how many pages the cache has slots for
-abbrev pub places_of : Pages → ℕ
-places_of pages = pages.slots.cap
+abbrev pub places_of_pages : Pages → ℕ
+places_of_pages pages = pages.slots.cap
 
 -- the slot with this number exists and has no page
 abbrev pub IsSlotFree : Pages → ℕ → Type 0

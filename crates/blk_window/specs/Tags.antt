@@ -14,8 +14,8 @@ abbrev pub has_name : File → ℕ → Tag → Bool
 has_name file number tag = tag.is_held && (same_file (file_of tag.file) file && (tag.number == number))
 
 -- the slot has a page of this file
-abbrev pub is_of : File → Tag → Bool
-is_of file tag = tag.is_held && same_file (file_of tag.file) file
+abbrev pub is_tag_of : File → Tag → Bool
+is_tag_of file tag = tag.is_held && same_file (file_of tag.file) file
 
 -- the page is full, or the n bytes from `place` of its file on end within it or before it
 abbrev pub reaches_to : ℕ → ℕ → Tag → Bool
@@ -24,4 +24,4 @@ reaches_to place n tag = nat_le held.page_size tag.count || nat_le (place + n) (
 -- a write of n bytes at `place` of this file changes what the slot holds
 abbrev pub touches : File → ℕ → ℕ → Tag → Bool
 touches file place n tag =
-    is_of file tag && ((nat_lt (place - tag.number * held.page_size) tag.count && nat_lt (tag.number * held.page_size - place) n) || not (reaches_to place n tag))
+    is_tag_of file tag && ((nat_lt (place - tag.number * held.page_size) tag.count && nat_lt (tag.number * held.page_size - place) n) || not (reaches_to place n tag))

@@ -4,7 +4,7 @@ ghost use Rattle.std.specs.Option.{ForSome};
 ghost use Rattle.spec_image.specs.Bytes.{spliced};
 ghost use Rattle.spec_image.specs.Told.{Stays, Rises};
 ghost use Rattle.blk_io.specs.FileNames.{file_of};
-ghost use Rattle.blk_window.specs.Held.{HoldsFileBytes, unless_of, written};
+ghost use Rattle.blk_window.specs.Held.{HoldsFileBytes, unless_of, page_after_write};
 
 use crate::tag::{PAGE_SIZE, Tag};
 use blk_io::{Failed, FileId, Folder};
@@ -73,7 +73,7 @@ impl Page {
 
     /// Writes over the bytes of the page in the slot, if it is one of the file. Where the page ends before the new bytes do, the slot becomes free.
     pub fn write(&mut self, file: FileId, at: u64, bytes: &[u8])
-        ensures { seen self.new ≡ option_and_then (written (file_of file) at bytes.now) (seen self.old) }
+        ensures { seen self.new ≡ option_and_then (page_after_write (file_of file) at bytes.now) (seen self.old) }
     {
         if self.tag.file != file {
             return;

@@ -6,7 +6,7 @@ ghost use Rattle.std.specs.Map.{keys_of};
 ghost use Rattle.blk_io.specs.FileNames.{file_of};
 ghost use Rattle.std.proofs.Props.{props};
 ghost use Rattle.lru.specs.LruCache.{last_entry};
-ghost use Rattle.blk_window.specs.Held.{is_held, page_at, dropped, unless_of, written};
+ghost use Rattle.blk_window.specs.Held.{is_held, page_at, pages_dropped, unless_of, page_after_write};
 ghost use Rattle.blk_window.specs.Slots.{AreTags, HoldsOnce};
 
 use crate::page::Page;
@@ -35,14 +35,14 @@ pub struct Pages {
 
 impl Pages {
     ghost use Rattle.blk_window.specs.Slots.{seen, shows, held_in, giving_way, Copies};
-    ghost use Rattle.blk_window.specs.Pages.{held_of, places_of, IsSlotFree};
+    ghost use Rattle.blk_window.specs.Pages.{held_of, places_of_pages, IsSlotFree};
     ghost use Rattle.blk_window.specs.PageClauses.{ForPageAt, UsesPage};
 
     /// So many slots, which hold nothing.
     pub fn new(alloc: Global, pages: u16) -> Result<Pages, AllocError>
         requires some { 0 < pages }
         requires few { pages ≤ 4096 }
-        ensures places { IfOk result (λ made. places_of made ≡ pages) }
+        ensures places { IfOk result (λ made. places_of_pages made ≡ pages) }
         ensures held { IfOk result (λ made. held_of made ≡ []) }
     {
         let places = NonZeroUsize::new(usize::from(pages)).unwrap();
@@ -65,7 +65,7 @@ impl Pages {
 
     // The tag of a slot.
     fn tag(&self, slot: u16) -> Tag
-        requires { slot < places_of self.now }
+        requires { slot < places_of_pages self.now }
         ensures { Some result ≡ slice_get self.now.tags.items slot }
     {
         self.tags[usize::from(slot)]
@@ -123,7 +123,7 @@ impl Pages {
         ensures exact { is_some result ≡ is_held (file_of file) (page_at at) (held_of self.old) }
         ensures used { IfSome result (λ n. ForPageAt self.old file at (UsesPage self.old self.new)) }
         ensures copies { IfSome result (λ n. ForPageAt self.old file at (λ page. Copies page (at % 4096) out.old out.new n)) }
-        ensures places { places_of self.new ≡ places_of self.old }
+        ensures places { places_of_pages self.new ≡ places_of_pages self.old }
         ensures none { IfNone result (held_of self.new ≡ held_of self.old) }
         ensures unfilled { IfNone result (out.new ≡ out.old) }
     {
@@ -134,9 +134,9 @@ impl Pages {
 
     /// Drops the page that is evicted for another where all slots hold one, and says which slot is free.
     pub fn make_room(&mut self) -> u16
-        ensures held { held_of self.new ≡ dropped (places_of self.old) (held_of self.old) }
+        ensures held { held_of self.new ≡ pages_dropped (places_of_pages self.old) (held_of self.old) }
         ensures free { IsSlotFree self.new result }
-        ensures places { places_of self.new ≡ places_of self.old }
+        ensures places { places_of_pages self.new ≡ places_of_pages self.old }
     {
         let slot = self.giving_way();
         if let Some(page) = self.slots.peek_mut(&slot) {
@@ -151,7 +151,7 @@ impl Pages {
         requires free { IsSlotFree self.old slot }
         requires new { ForSome (seen page.old) (λ new. is_held new.file new.number (held_of self.old) ≡ false) }
         ensures held { ForSome (seen page.old) (λ new. held_of self.new ≡ new ∷ held_of self.old) }
-        ensures places { places_of self.new ≡ places_of self.old }
+        ensures places { places_of_pages self.new ≡ places_of_pages self.old }
     {
         if let Some(place) = self.slots.get_mut(&slot) {
             mem::swap(place, page);
@@ -162,7 +162,7 @@ impl Pages {
     /// Drops all pages of a file.
     pub fn forget(&mut self, file: FileId)
         ensures held { held_of self.new ≡ filter_map (unless_of (file_of file)) (held_of self.old) }
-        ensures places { places_of self.new ≡ places_of self.old }
+        ensures places { places_of_pages self.new ≡ places_of_pages self.old }
     {
         for slot in 0..self.slots.cap().get() as u16 {
             if self.tag(slot).is_of(file) {
@@ -176,8 +176,8 @@ impl Pages {
 
     /// Writes over bytes of the pages of a file.
     pub fn write(&mut self, file: FileId, at: u64, bytes: &[u8])
-        ensures held { held_of self.new ≡ filter_map (written (file_of file) at bytes.now) (held_of self.old) }
-        ensures places { places_of self.new ≡ places_of self.old }
+        ensures held { held_of self.new ≡ filter_map (page_after_write (file_of file) at bytes.now) (held_of self.old) }
+        ensures places { places_of_pages self.new ≡ places_of_pages self.old }
     {
         for slot in 0..self.slots.cap().get() as u16 {
             if self.tag(slot).is_touched(file, at, bytes) {

@@ -20,7 +20,7 @@ pub struct Tag {
 }
 
 impl Tag {
-    ghost use Rattle.blk_window.specs.Tags.{has_name, is_of, touches, reaches_to};
+    ghost use Rattle.blk_window.specs.Tags.{has_name, is_tag_of, touches, reaches_to};
 
     /// The tag of a slot that holds nothing.
     pub fn free() -> Tag
@@ -43,7 +43,7 @@ impl Tag {
 
     /// Whether the slot holds a page of a file.
     pub fn is_of(&self, file: FileId) -> bool
-        ensures { result ≡ is_of (file_of file) self.now }
+        ensures { result ≡ is_tag_of (file_of file) self.now }
     {
         self.is_held && self.file == file
     }

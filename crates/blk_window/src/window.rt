@@ -9,8 +9,8 @@ ghost use Rattle.spec_image.specs.Told.{Applies, Stays, AppliesPrefix, Rises, Gi
 ghost use Rattle.blk_io.specs.FileNames.{IsNextName, file_of};
 ghost use Rattle.blk_io.specs.Untold.{untold};
 ghost use Rattle.blk_io.specs.Faults.{OkFor};
-ghost use Rattle.blk_window.specs.Held.{HoldsFileBytes, is_held, page_at, dropped, unless_of, written};
-ghost use Rattle.blk_window.specs.Pages.{held_of, places_of};
+ghost use Rattle.blk_window.specs.Held.{HoldsFileBytes, is_held, page_at, pages_dropped, unless_of, page_after_write};
+ghost use Rattle.blk_window.specs.Pages.{held_of, places_of_pages};
 ghost use Rattle.blk_window.specs.PageClauses.{EndsInside, ReadsOnePage, ReadsInPages, FailsInPages, AreRewritten, HoldsPages};
 
 use crate::page::Page;
@@ -33,7 +33,7 @@ pub struct Window<F: Folder> {
 fn make(alloc: Global, pages: u16) -> Result<(Pages, Page), AllocError>
     requires some { 0 < pages }
     requires few { pages ≤ 4096 }
-    ensures places { IfOk result (λ made. places_of made.0 ≡ pages) }
+    ensures places { IfOk result (λ made. places_of_pages made.0 ≡ pages) }
     ensures held { IfOk result (λ made. held_of made.0 ≡ []) }
 {
     let spare = Page::new(alloc)?;
@@ -46,7 +46,7 @@ impl<F: Folder> Window<F> {
         requires some { 0 < pages }
         requires few { pages ≤ 4096 }
         ensures inner { IfOk result (λ window. window.inner ≡ inner) }
-        ensures places { IfOk result (λ window. places_of window.pages ≡ pages) }
+        ensures places { IfOk result (λ window. places_of_pages window.pages ≡ pages) }
         ensures held { IfOk result (λ window. held_of window.pages ≡ []) }
         ensures back { IfErr result (λ folder. folder ≡ inner) }
     {
@@ -77,7 +77,7 @@ impl<F: Folder> Window<F> {
     /// Each page in the cache has the bytes that its file has there, where the files are observable. There are no more pages than slots.
     pub fn held_pages_agree(&self)
         ensures agree { ForSome (F.told self.now.inner).files (λ image. All (HoldsFileBytes image) (held_of self.now.pages)) }
-        ensures few { length (held_of self.now.pages) ≤ places_of self.now.pages }
+        ensures few { length (held_of self.now.pages) ≤ places_of_pages self.now.pages }
     {}
 
     // Moves bytes of one page into a prefix of `out`, as many as there are. It's the page that was used last then.
@@ -88,10 +88,10 @@ impl<F: Folder> Window<F> {
         ensures stays { Stays (F.told self.old.inner) (F.told self.new.inner) }
         ensures later { F.faults self.old.inner ≤ F.faults self.new.inner }
         ensures failed { OnErr result (Rises (F.faults self.old.inner) (F.faults self.new.inner)) }
-        ensures places { places_of self.new.pages ≡ places_of self.old.pages }
+        ensures places { places_of_pages self.new.pages ≡ places_of_pages self.old.pages }
         ensures used { IfOk result (ReadsOnePage self.old.pages self.new.pages file at (length out.old)) }
         ensures missing { OnErr result (is_held (file_of file) (page_at at) (held_of self.old.pages) ≡ false) }
-        ensures dropped { OnErr result (held_of self.new.pages ≡ dropped (places_of self.old.pages) (held_of self.old.pages)) }
+        ensures dropped { OnErr result (held_of self.new.pages ≡ pages_dropped (places_of_pages self.old.pages) (held_of self.old.pages)) }
         ensures held { is_held (file_of file) (page_at at) (held_of self.old.pages) ≡ true → IsOk result × (self.new.inner ≡ self.old.inner) }
     {
         if let Some(n) = self.pages.read(file, at, out) {
@@ -113,7 +113,7 @@ impl<F: Folder> Window<F> {
         ensures stays { Stays (F.told self.old.inner) (F.told self.new.inner) }
         ensures later { F.faults self.old.inner ≤ F.faults self.new.inner }
         ensures failed { OnErr result (Rises (F.faults self.old.inner) (F.faults self.new.inner)) }
-        ensures places { places_of self.new.pages ≡ places_of self.old.pages }
+        ensures places { places_of_pages self.new.pages ≡ places_of_pages self.old.pages }
         ensures reads { OnOk result (ReadsInPages self.old.pages self.new.pages file at (length out.old)) }
         ensures fails { OnErr result (FailsInPages self.old.pages self.new.pages file at (length out.old)) }
         ensures held { HoldsPages self.old.pages file at (length out.old) → IsOk result × (self.new.inner ≡ self.old.inner) }
@@ -164,7 +164,7 @@ impl<F: Folder> Folder for Window<F> {
         ensures stays { Stays (F.told self.old.inner) (F.told self.new.inner) }
         ensures later { F.faults self.old.inner ≤ F.faults self.new.inner }
         ensures failed { OnErr result (Rises (F.faults self.old.inner) (F.faults self.new.inner)) }
-        ensures places { places_of self.new.pages ≡ places_of self.old.pages }
+        ensures places { places_of_pages self.new.pages ≡ places_of_pages self.old.pages }
 
         // Which pages are held then, and in which order.
         ensures reads { EndsInside at (length out.old) → OnOk result (ReadsInPages self.old.pages self.new.pages file at (length out.old)) }
@@ -188,8 +188,8 @@ impl<F: Folder> Folder for Window<F> {
         ensures prefix { AppliesPrefix (F.told self.old.inner) (F.told self.new.inner) (words (file_of file) at bytes.now) }
         ensures later { F.faults self.old.inner ≤ F.faults self.new.inner }
         ensures failed { OnErr result (Rises (F.faults self.old.inner) (F.faults self.new.inner)) }
-        ensures places { places_of self.new.pages ≡ places_of self.old.pages }
-        ensures written { OnOk result (held_of self.new.pages ≡ filter_map (written (file_of file) at bytes.now) (held_of self.old.pages)) }
+        ensures places { places_of_pages self.new.pages ≡ places_of_pages self.old.pages }
+        ensures written { OnOk result (held_of self.new.pages ≡ filter_map (page_after_write (file_of file) at bytes.now) (held_of self.old.pages)) }
         ensures dropped { OnErr result (held_of self.new.pages ≡ filter_map (unless_of (file_of file)) (held_of self.old.pages)) }
 
         // In an observable folder no page is dropped by a write that was made.
@@ -212,7 +212,7 @@ impl<F: Folder> Folder for Window<F> {
         ensures undone { OnErr result (Stays (F.told self.old.inner) (F.told self.new.inner)) }
         ensures later { F.faults self.old.inner ≤ F.faults self.new.inner }
         ensures failed { OnErr result (Rises (F.faults self.old.inner) (F.faults self.new.inner)) }
-        ensures places { places_of self.new.pages ≡ places_of self.old.pages }
+        ensures places { places_of_pages self.new.pages ≡ places_of_pages self.old.pages }
         ensures dropped { held_of self.new.pages ≡ filter_map (unless_of (file_of file)) (held_of self.old.pages) }
     {
         self.pages.forget(file);
@@ -224,7 +224,7 @@ impl<F: Folder> Folder for Window<F> {
         ensures undone { OnErr result (Stays (F.told self.old.inner) (F.told self.new.inner)) }
         ensures later { F.faults self.old.inner ≤ F.faults self.new.inner }
         ensures failed { OnErr result (Rises (F.faults self.old.inner) (F.faults self.new.inner)) }
-        ensures places { places_of self.new.pages ≡ places_of self.old.pages }
+        ensures places { places_of_pages self.new.pages ≡ places_of_pages self.old.pages }
         ensures dropped { held_of self.new.pages ≡ filter_map (unless_of (file_of file)) (held_of self.old.pages) }
     {
         self.pages.forget(file);

@@ -5,7 +5,7 @@ use Rattle.spec_image.specs.Footprint.{SameOutside, one_word}
 use Rattle.blk_model.specs.State.{Bounds}
 use Rattle.blk_model.specs.Holding.{open_state}
 use Rattle.spec_format.specs.Address.{header_size}
-use Rattle.spec_format.specs.Headers.{count_of, counted_places, counting, header_length, table_length, bucket_of, allocations_of, empty_of, updating_of}
+use Rattle.spec_format.specs.Headers.{index_count_of, counted_places, counting, header_length, table_length, bucket_of, allocations_of, empty_of, updating_of}
 use Rattle.spec_format.specs.NewFolder.{HoldsNew, IsMade, index_without_magic}
 use Rattle.spec_format.specs.BlockFiles.{is_among, linked_as, max_entries_in, most_blocks, HasSoundHeaders, IsWellFormed}
 use Rattle.spec_format.specs.Maps.{is_block_marked}
@@ -27,7 +27,7 @@ pub record IsIndexWithoutEntries (image : Image) : Type 0 where
   pub tail : (list_of image).tail ≡ 0
   pub transaction : (list_of image).transaction ≡ 0
   pub table : (bucket : ℕ) → bucket < table_length → bucket_of (byte image Index) bucket ≡ 0
-  pub counts : count_of (byte image Index) ≡ counting 0 0
+  pub counts : index_count_of (byte image Index) ≡ counting 0 0
 
 -- a block file has its header, and no block
 pub record IsFileWithoutBlocks (image : Image) (n : ℕ) : Type 0 where

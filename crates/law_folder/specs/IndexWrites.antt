@@ -2,7 +2,7 @@
 use Rattle.std.specs.Prelude.{◌≡◌, ℕ, ◌+◌, ◌/◌, ◌^◌, ◌<◌, ◌%◌, false, true, List, [], ◌∷◌}
 use Rattle.spec_image.specs.Image.{Index, Image, byte, word}
 use Rattle.spec_image.specs.Footprint.{SameOutside, one_word}
-use Rattle.spec_format.specs.Headers.{count_of, counted_places, header_length, index_version, place_of_bucket, version_place, zero_places, heads_place, tails_place, transaction_place, operation_place}
+use Rattle.spec_format.specs.Headers.{index_count_of, counted_places, header_length, index_version, place_of_bucket, version_place, zero_places, heads_place, tails_place, transaction_place, operation_place}
 use Rattle.spec_format.specs.BlockFiles.{is_among, stands_in, HasSoundHeaders, KeepsHeaders}
 use Rattle.spec_folder.specs.ListView.{ListWrite, Head, Tail, Transaction, Operation, put}
 use Rattle.spec_folder.specs.View.{list_of, store_of, view_of}
@@ -77,7 +77,7 @@ VersionsMayBeRaised = (from image : Image) → IsIndexWord version_place index_v
 
 -- a change of the index that spares the words at `counted_places` leaves what the index counts
 abbrev pub OtherBytesAreNotCounted : Type 0
-OtherBytesAreNotCounted = (from image : Image) → ((p : ℕ) → is_among counted_places p ≡ true → word image Index p ≡ word from Index p) → count_of (byte image Index) ≡ count_of (byte from Index)
+OtherBytesAreNotCounted = (from image : Image) → ((p : ℕ) → is_among counted_places p ≡ true → word image Index p ≡ word from Index p) → index_count_of (byte image Index) ≡ index_count_of (byte from Index)
 
 -- the write of the word of a bucket keeps the headers
 abbrev pub BucketsAreNotChecked : Type 0

@@ -4,7 +4,7 @@ use Rattle.std.specs.List.{AllByRecursion, flat_map, sum_by}
 use Rattle.spec_image.specs.Image.{Index, Image, AreBytes, byte}
 use Rattle.blk_model.specs.State.{Bounds}
 use Rattle.blk_model.specs.Holding.{open_state}
-use Rattle.spec_format.specs.Headers.{count_of, counting, index_version, version_of}
+use Rattle.spec_format.specs.Headers.{index_count_of, counting, index_version, version_of}
 use Rattle.spec_format.specs.BlockFiles.{linked_as}
 use Rattle.spec_folder.specs.Loads.{claims_of_loaded}
 use Rattle.spec_folder.specs.Found.{charge_of, kept, found}
@@ -31,7 +31,7 @@ AreKeptSealed image = AllByRecursion (AreSealed image) (kept image)
 
 -- the index, of the version that is made now, counts what is kept
 abbrev pub HasMendedCounters : Image → Type 0
-HasMendedCounters image = count_of (byte image Index) ≡ counting (length (kept image)) (sum_by charge_of (kept image))
+HasMendedCounters image = index_count_of (byte image Index) ≡ counting (length (kept image)) (sum_by charge_of (kept image))
 
 -- nothing is left to repair: links, maps, counters, files and checksums are those of what is kept
 pub record IsMended (image : Image) : Type 0 where

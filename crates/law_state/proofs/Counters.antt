@@ -4,7 +4,7 @@ use Rattle.std.specs.Prelude.{◌==◌, ◌/◌}
 use Rattle.std.proofs.lemmas.Bool.{cases_Bool, eqb-true}
 use Rattle.spec_image.specs.Image.{Image, Index, byte, word}
 use Rattle.spec_format.specs.BlockFiles.{is_among}
-use Rattle.spec_format.specs.Headers.{Count, count_of, counter_places, num_bytes64_of, num_bytes_of, version_of}
+use Rattle.spec_format.specs.Headers.{Count, index_count_of, counter_places, num_bytes64_of, num_bytes_of, version_of}
 use Rattle.spec_format.proofs.Counts.{its-bytes, its-version}
 use Rattle.law_folder.specs.IndexWrites.{checked_words, shown_words}
 use Rattle.law_state.specs.ChangeLaws.{kept_words}
@@ -83,8 +83,8 @@ module _ (items sum nodes : ℕ) (from image : Image) (w : AreCountersWritten it
       omega (arith, low, high)
 
   -- so the version and the word of the first one's sum are as they were, and the others say what was written
-  pub counters-say : count_of (byte image Index) ≡ (let c : Count = record { version = version_of (byte from Index); entries = items; bytes = num_bytes_of (byte from Index); bytes64 = sum; nodes = nodes } in c)
-  unfolding count_of
+  pub counters-say : index_count_of (byte image Index) ≡ (let c : Count = record { version = version_of (byte from Index); entries = items; bytes = num_bytes_of (byte from Index); bytes64 = sum; nodes = nodes } in c)
+  unfolding index_count_of
   counters-say = λ j. record {
     version = others 4 refl refl refl refl refl j;
     entries = (behind-items 8 refl refl refl refl ∙ w.items_written.there) j;

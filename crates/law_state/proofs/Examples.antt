@@ -12,7 +12,7 @@ use Rattle.spec_image.proofs.Images.{length-after_write, word-after_same}
 use Rattle.blk_model.specs.Holding.{open_state}
 use Rattle.blk_model.specs.State.{Object}
 use Rattle.spec_format.specs.BlockFiles.{linked_as, max_entries_in, next_file_in}
-use Rattle.spec_format.specs.Headers.{count_of, counting, crash_of, place_of_bucket, this_id_of}
+use Rattle.spec_format.specs.Headers.{index_count_of, counting, crash_of, place_of_bucket, this_id_of}
 use Rattle.spec_format.proofs.Finished.{whole_index, formed-kept, sound-of}
 use Rattle.spec_folder.specs.Sound.{AreSealed, IsSound}
 use Rattle.spec_folder.specs.Emptiness.{no_layout}
@@ -53,8 +53,8 @@ whole-tidy = record {
 }
 
 -- the folder of the doomed object is in order by its layout
-doomed-counts : count_of (byte doomed_folder Index) ≡ counting 0 0
-unfolding count_of doomed_folder zeros with_word spliced
+doomed-counts : index_count_of (byte doomed_folder Index) ≡ counting 0 0
+unfolding index_count_of doomed_folder zeros with_word spliced
 doomed-counts = refl
 
 doomed-tidy : IsTidy doomed_folder (doomed_state true) (doomed_layout 0) (0 ∷ [])

@@ -15,7 +15,7 @@ use Rattle.spec_format.specs.Address.{block_place, block_size, file_selector, fi
 use Rattle.spec_format.specs.BlockFiles.{block_checks, is_among, linked_as, max_entries_in, next_file_in, HasSoundHeaders, KeepsHeaders}
 use Rattle.spec_format.specs.Claims.{BlockOf, Claim, ExternalOf, has_claim, is_in_file}
 use Rattle.spec_format.specs.Hash.{hash, mixed, of_bytes, of_four}
-use Rattle.spec_format.specs.Headers.{allocations_of, count_of, counting, crash_of, empty_of, list_checks, max_entries_of, next_file_of, this_id_of, updating_of, field_checks}
+use Rattle.spec_format.specs.Headers.{allocations_of, index_count_of, counting, crash_of, empty_of, list_checks, max_entries_of, next_file_of, this_id_of, updating_of, field_checks}
 use Rattle.spec_format.specs.Maps.{EmptyAgrees, groups_of, groups_with, is_block_marked, is_block_marked_at}
 use Rattle.spec_format.specs.Records.{entry_body, entry_in, entry_is_sealed, node_body, node_in, node_is_sealed}
 use Rattle.spec_format.proofs.Keeping.{none_both, none_parts, undamaged_still}
@@ -290,8 +290,8 @@ all-sealed : AllByRecursion (AreSealed short_folder) all_four
 unfolding short_folder zeros with_word spliced file_selector kind_of first_block place block_place block_size node_is_sealed node_in node_body entry_is_sealed entry_in entry_body words_at hash mixed of_bytes of_four
 all-sealed = (record { node = refl; entry = refl }, (record { node = refl; entry = refl }, (record { node = refl; entry = refl }, (record { node = refl; entry = refl }, tt))))
 
-index-counts : count_of (byte short_folder Index) ≡ counting 3 (sum_by charge_of (loaded_at worked_layout (order worked worked_layout)))
-unfolding count_of short_folder zeros with_word spliced
+index-counts : index_count_of (byte short_folder Index) ≡ counting 3 (sum_by charge_of (loaded_at worked_layout (order worked worked_layout)))
+unfolding index_count_of short_folder zeros with_word spliced
 index-counts = refl
 
 worked-tidy : IsTidy worked_folder worked worked_layout (2 ∷ [])
@@ -299,7 +299,7 @@ worked-tidy = record {
   only_linked = worked-only;
   long_enough = worked-long;
   counted = worked-counted;
-  counts = ap count_of (same-bytes Index) ∙ index-counts;
+  counts = ap index_count_of (same-bytes Index) ∙ index-counts;
   sealed = λ node loaded here. seals-same loaded (looked (λ w l. AreSealed short_folder l) all_four all-sealed node loaded here);
 }
 

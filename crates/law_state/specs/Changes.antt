@@ -11,7 +11,7 @@ use Rattle.spec_format.specs.Growth.{HaveGrown}
 use Rattle.spec_format.specs.Maps.{AreAllocations, EmptyAgrees}
 use Rattle.spec_format.specs.BlockFiles.{is_among, linked_as, max_entries_in, stands_in, HasSoundHeaders, IsWellFormed, KeepsHeaders}
 use Rattle.spec_format.specs.Claims.{Claim, ExternalOf, claims_of_all, has_claim, same_claim}
-use Rattle.spec_format.specs.Headers.{count_of, crash_of, index_magic, magic_of, this_id_of, updating_of}
+use Rattle.spec_format.specs.Headers.{index_count_of, crash_of, index_magic, magic_of, this_id_of, updating_of}
 use Rattle.spec_folder.specs.Found.{found, held}
 use Rattle.spec_folder.specs.Footprint.{AgreeBut}
 use Rattle.spec_folder.specs.Layout.{Layout}
@@ -59,7 +59,7 @@ pub record SameSession (from image : Image) : Type 0 where
 
 -- the index counts as before
 abbrev pub SameCounters : Image → Image → Type 0
-SameCounters from image = count_of (byte image Index) ≡ count_of (byte from Index)
+SameCounters from image = index_count_of (byte image Index) ≡ index_count_of (byte from Index)
 
 -- nothing that is shown changes but for some blocks and external files, and nothing of headers, lengths and the session
 pub record ChangesOnly (touched : Claim → Bool) (from image : Image) : Type 0 where

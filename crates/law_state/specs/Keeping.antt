@@ -7,7 +7,7 @@ use Rattle.blk_model.specs.State.{State, Object, IsValidState, object_at}
 use Rattle.spec_image.specs.Image.{Index, Block, External, Image, byte, has_file}
 use Rattle.spec_format.specs.BlockFiles.{linked_as, stands_in, HasSoundHeaders}
 use Rattle.spec_format.specs.Claims.{Claim, ExternalOf, claims_of_all, has_claim, is_in_file, repeats}
-use Rattle.spec_format.specs.Headers.{count_of, counting, crash_of, this_id_of, updating_of}
+use Rattle.spec_format.specs.Headers.{index_count_of, counting, crash_of, this_id_of, updating_of}
 use Rattle.spec_format.specs.Maps.{AreAllocations, EmptyAgrees}
 use Rattle.spec_folder.specs.ListView.{Distinct}
 use Rattle.spec_folder.specs.View.{view_of}
@@ -69,7 +69,7 @@ AllAreSealed image layout = (node : ℕ) (loaded : Loaded) → layout.at node �
 
 -- the index, of the version that is made now, counts the listed items, and has the sum of their costs
 abbrev pub CountsItems : Image → State → Layout → Type 0
-CountsItems image state layout = count_of (byte image Index) ≡ counting (length state.uses) (sum_by charge_of (loaded_at layout (order state layout)))
+CountsItems image state layout = index_count_of (byte image Index) ≡ counting (length state.uses) (sum_by charge_of (loaded_at layout (order state layout)))
 
 -- the dirty flag of each live object that is dirty is this number
 abbrev pub AreMarkedBy : ℕ → State → Layout → Type 0

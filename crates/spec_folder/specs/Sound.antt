@@ -4,7 +4,7 @@ use Rattle.std.specs.List.{sum_by, count_by, flat_map, filter, AllByRecursion}
 use Rattle.std.specs.declared.option.Option.TheVariants.{Some}
 use Rattle.spec_image.specs.Image.{Index, Block, External, Image, has_file, length_of, byte}
 use Rattle.spec_format.specs.Address.{block_place}
-use Rattle.spec_format.specs.Headers.{CountsAs, count_of, table_length, allocations_of, updating_of}
+use Rattle.spec_format.specs.Headers.{CountsAs, index_count_of, table_length, allocations_of, updating_of}
 use Rattle.spec_format.specs.Records.{node_is_sealed, entry_is_sealed}
 use Rattle.spec_format.specs.Claims.{Claim, BlockOf, ExternalOf, has_claim, is_in_file, repeats}
 use Rattle.spec_format.specs.BlockFiles.{linked_as, max_entries_in, most_blocks, IsWellFormed}
@@ -70,7 +70,7 @@ pub record AreSealed (image : Image) (loaded : Loaded) : Type 0 where
 -- the tail and what the index counts agree with what is listed
 pub record IsIndexCounted (image : Image) (listed : List Loaded) : Type 0 where
   pub tail : (view_of image).list.tail ≡ last_or 0 (map (λ loaded. loaded.node) listed)
-  pub counts : CountsAs (length listed) (sum_by charge_of listed) (count_of (byte image Index))
+  pub counts : CountsAs (length listed) (sum_by charge_of listed) (index_count_of (byte image Index))
 
 -- files, counters, checksums and the words of the index agree with what is listed, and with what is kept in addition to the list
 pub record IsInOrder (image : Image) (listed doomed : List Loaded) : Type 0 where

@@ -6,7 +6,7 @@ use Rattle.spec_image.specs.Image.{File, Image, Index, Block, External, byte, ha
 use Rattle.spec_image.specs.Footprint.{Footprint}
 use Rattle.spec_format.specs.Address.{header_size}
 use Rattle.spec_format.specs.BlockFiles.{IsWellFormed, linked_as, most_blocks}
-use Rattle.spec_format.specs.Headers.{count_of, counting}
+use Rattle.spec_format.specs.Headers.{index_count_of, counting}
 use Rattle.spec_format.specs.Maps.{is_block_marked}
 use Rattle.blk_model.specs.State.{State, IsValidState}
 use Rattle.spec_folder.specs.View.{view_of}
@@ -30,7 +30,7 @@ pub record IsTidy (image : Image) (state : State) (layout : Layout) (numbers : L
   pub long_enough : AreLongEnough image
   pub counted : (n : ℕ) → is_some (linked_as image n) ≡ true
       → CountersAgree image (flat_map words_of (loaded_at layout (order state layout ++ doomed_nodes layout numbers))) n
-  pub counts : count_of (byte image Index) ≡ counting (length state.uses) (sum_by charge_of (loaded_at layout (order state layout)))
+  pub counts : index_count_of (byte image Index) ≡ counting (length state.uses) (sum_by charge_of (loaded_at layout (order state layout)))
   pub sealed : (node : ℕ) (loaded : Loaded) → layout.at node ≡ Some loaded → AreSealed image loaded
 
 -- an image represents a state by a layout, its files too, and these are the numbers of the doomed objects: it is well formed, its view represents the state,

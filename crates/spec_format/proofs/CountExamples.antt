@@ -2,7 +2,7 @@
 use Rattle.std.proofs.Common.{◌≡◌, ℕ, ◌+◌, ◌^◌, List, [], ◌∷◌, false, true, refl}
 use Rattle.spec_image.specs.Bytes.{content, spliced, zeros}
 use Rattle.spec_image.specs.Steps.{with_word, with_words}
-use Rattle.spec_format.specs.Headers.{CountsAs, count_of, counting, is_index_version, pad_of}
+use Rattle.spec_format.specs.Headers.{CountsAs, index_count_of, counting, is_index_version, pad_of}
 
 -- the words of a header of three items whose costs sum to 661: as the first version has them, with others at the new place
 first_words : List (ℕ × ℕ)
@@ -22,25 +22,25 @@ header_of words = content (with_words words (zeros 368))
 no : false ≡ true → ⊥
 no e = cc
 
-first_counts : CountsAs 3 661 (count_of (header_of first_words))
-unfolding count_of header_of first_words with_word spliced zeros
+first_counts : CountsAs 3 661 (index_count_of (header_of first_words))
+unfolding index_count_of header_of first_words with_word spliced zeros
 first_counts = record { entries = refl; nodes = refl; first = λ is. refl; now = λ is. absurd (no is) }
 
 -- the first version has that sum modulo 2 ^ 32
-first_counts_rest : CountsAs 3 (2 ^ 32 + 661) (count_of (header_of first_words))
-unfolding count_of header_of first_words with_word spliced zeros
+first_counts_rest : CountsAs 3 (2 ^ 32 + 661) (index_count_of (header_of first_words))
+unfolding index_count_of header_of first_words with_word spliced zeros
 first_counts_rest = record { entries = refl; nodes = refl; first = λ is. refl; now = λ is. absurd (no is) }
 
-raised_is : count_of (header_of raised_words) ≡ counting 3 661
-unfolding count_of header_of raised_words with_word spliced zeros
+raised_is : index_count_of (header_of raised_words) ≡ counting 3 661
+unfolding index_count_of header_of raised_words with_word spliced zeros
 raised_is = refl
 
-raised_counts : CountsAs 3 661 (count_of (header_of raised_words))
-unfolding count_of header_of raised_words with_word spliced zeros
+raised_counts : CountsAs 3 661 (index_count_of (header_of raised_words))
+unfolding index_count_of header_of raised_words with_word spliced zeros
 raised_counts = record { entries = refl; nodes = refl; first = λ is. absurd (no is); now = λ is. (refl, refl) }
 
-large_is : count_of (header_of large_words) ≡ counting 3 6442450942
-unfolding count_of header_of large_words with_word spliced zeros
+large_is : index_count_of (header_of large_words) ≡ counting 3 6442450942
+unfolding index_count_of header_of large_words with_word spliced zeros
 large_is = refl
 
 -- the words that aren't read begin after the sum

@@ -197,8 +197,8 @@ pub record Count : Type 0 where
   pub nodes : ℕ
 
 -- what an index of this content counts
-unfoldable pub count_of : (ℕ → ℕ) → Count
-count_of f = record { version = version_of f; entries = num_entries_of f; bytes = num_bytes_of f; bytes64 = num_bytes64_of f; nodes = sizes_of f 0 }
+unfoldable pub index_count_of : (ℕ → ℕ) → Count
+index_count_of f = record { version = version_of f; entries = num_entries_of f; bytes = num_bytes_of f; bytes64 = num_bytes64_of f; nodes = sizes_of f 0 }
 
 -- what an index of the version that is made now counts for so many items with a sum of costs
 abbrev pub counting : (items sum : ℕ) → Count

@@ -16,7 +16,7 @@ use Rattle.spec_format.specs.Storage.{kind_for, blocks_for, entry_blocks, is_sto
 use Rattle.spec_format.specs.Standing.{stands, stands_as_blocks}
 use Rattle.spec_format.specs.Records.{entry_doomed, node_checks, node_is_sealed, entry_checks, entry_is_sealed, node_in, node_body, entry_in, entry_body}
 use Rattle.spec_format.specs.Claims.{BlockOf, ExternalOf, has_claim, is_in_file}
-use Rattle.spec_format.specs.Headers.{count_of, counting, unfinished, field_checks, head_checks, list_checks, index_length, bucket_of, empty_of}
+use Rattle.spec_format.specs.Headers.{index_count_of, counting, unfinished, field_checks, head_checks, list_checks, index_length, bucket_of, empty_of}
 use Rattle.spec_format.proofs.Counts.{counts-as, its-version}
 use Rattle.spec_format.specs.BlockFiles.{next_file_in, max_entries_in, files_along, linked, linked_up_to, kind_among, is_link, is_block_count, file_checks, checks_along, checks_of_kind, linked_as, is_among, IsWellFormed}
 use Rattle.spec_format.specs.Maps.{is_block_marked_at, is_block_marked, are_free, has_run, longest_run, groups_with, EmptyAgrees}
@@ -228,8 +228,8 @@ folder-counted (suc (suc (suc zero))) small = record { num_entries = refl; empty
 folder-counted (suc (suc (suc (suc n)))) small = absurd (omega arith)
 
 -- the counts of the index don't have them
-folder-counts : count_of (byte doomed_folder Index) ≡ counting 0 0
-unfolding count_of doomed_folder zeros with_word spliced
+folder-counts : index_count_of (byte doomed_folder Index) ≡ counting 0 0
+unfolding index_count_of doomed_folder zeros with_word spliced
 folder-counts = refl
 
 folder-index : IsIndexCounted doomed_folder []

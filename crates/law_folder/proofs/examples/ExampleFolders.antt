@@ -7,7 +7,7 @@ use Rattle.std.proofs.lemmas.Bool.{ltb-true}
 use Rattle.std.proofs.lemmas.Bool.Decides.{nat_tests}
 use Rattle.spec_image.specs.Bytes.{spliced, words_at, zeros}
 use Rattle.spec_image.specs.Image.{Block, External, Index, byte, has_file, length_of}
-use Rattle.spec_format.specs.Headers.{count_of, counting}
+use Rattle.spec_format.specs.Headers.{index_count_of, counting}
 use Rattle.spec_format.proofs.Counts.{counts-as, its-version}
 use Rattle.spec_image.specs.Steps.{with_word}
 use Rattle.blk_model.specs.State.{Object, Bounds, object_at}
@@ -131,8 +131,8 @@ whole-counted (suc (suc (suc zero))) small = record { num_entries = refl; empty 
 whole-counted (suc (suc (suc (suc n)))) small = absurd (omega arith)
 
 -- one item of three bytes
-pub whole-counts : count_of (byte whole_folder Index) ≡ counting 1 3
-unfolding count_of whole_folder zeros with_word spliced
+pub whole-counts : index_count_of (byte whole_folder Index) ≡ counting 1 3
+unfolding index_count_of whole_folder zeros with_word spliced
 whole-counts = refl
 
 whole-index : IsIndexCounted whole_folder (one.loaded 0 ∷ [])

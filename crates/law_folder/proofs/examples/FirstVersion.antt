@@ -6,7 +6,7 @@ use Rattle.spec_image.specs.Bytes.{content, spliced, word_at, zeros}
 use Rattle.spec_image.specs.Image.{Image, Index, byte}
 use Rattle.spec_image.specs.Steps.{with_word, with_words}
 use Rattle.spec_format.specs.Address.{block_size}
-use Rattle.spec_format.specs.Headers.{CountsAs, count_of, first_version, field_checks, head_checks, list_checks, version_of}
+use Rattle.spec_format.specs.Headers.{CountsAs, index_count_of, first_version, field_checks, head_checks, list_checks, version_of}
 use Rattle.spec_format.specs.BlockFiles.{next_file_in, max_entries_in, files_along, linked, linked_up_to, is_link, is_block_count, file_checks, checks_along, checks_of_kind, linked_as, IsWellFormed}
 use Rattle.spec_format.specs.Maps.{EmptyAgrees}
 use Rattle.spec_folder.specs.View.{View, list_of, store_of, view_of}
@@ -35,8 +35,8 @@ first_folder = with_index whole_folder (Some first_index)
 no : false ≡ true → ⊥
 no e = cc
 
-first-counts : CountsAs 1 3 (count_of (byte first_folder Index))
-unfolding count_of with_index whole_folder zeros with_word spliced
+first-counts : CountsAs 1 3 (index_count_of (byte first_folder Index))
+unfolding index_count_of with_index whole_folder zeros with_word spliced
 first-counts = record { entries = refl; nodes = refl; first = λ is. refl; now = λ is. absurd (no is) }
 
 pub first-version : version_of (byte first_folder Index) ≡ first_version

@@ -11,7 +11,7 @@ use Rattle.spec_image.specs.Order.{IsBefore}
 use Rattle.spec_image.proofs.Splices.{length-zeros, content-zeros, content-spliced_outside}
 use Rattle.spec_image.proofs.Words.{word-beside, word-there, word-zeros, length-with_words}
 use Rattle.spec_format.specs.Address.{block_size, header_size}
-use Rattle.spec_format.specs.Headers.{count_of, counting, field_checks, head_checks, list_checks, index_length, index_magic, index_version, place_of_bucket, table_length}
+use Rattle.spec_format.specs.Headers.{index_count_of, counting, field_checks, head_checks, list_checks, index_length, index_magic, index_version, place_of_bucket, table_length}
 use Rattle.spec_format.proofs.Counts.{count-is}
 use Rattle.spec_format.proofs.Finished.{sound-of}
 use Rattle.spec_format.specs.BlockFiles.{next_file_in, max_entries_in, files_along, linked, linked_as, kind_among, is_link, is_block_count, file_checks, checks_along, checks_of_kind, linked_up_to, IsWellFormed}
@@ -59,7 +59,7 @@ index-version moment =
     words_beside 4 ((28, table_length) ∷ (40, moment % 2 ^ 32) ∷ (44, moment / 2 ^ 32) ∷ (0, index_magic) ∷ []) (with_word 4 index_version (zeros index_length)) (inl (lit≤ tt), (inl (lit≤ tt), (inl (lit≤ tt), (inr (lit≤ tt), tt))))
     ∙ word-there 4 index_version (zeros index_length) (lit< tt) (let long : length (zeros index_length) ≡ index_length = length-zeros index_length in omega arith)
 
-index-counts : (moment : ℕ) → count_of (byte (new_folder moment) Index) ≡ counting 0 0
+index-counts : (moment : ℕ) → index_count_of (byte (new_folder moment) Index) ≡ counting 0 0
 index-counts moment =
     count-is (byte (new_folder moment) Index) 0 0 (index-version moment)
     (index-zero moment 8 (inr (lit≤ tt), (inl (lit≤ tt), (inl (lit≤ tt), (inl (lit≤ tt), (inr (lit≤ tt), tt))))))

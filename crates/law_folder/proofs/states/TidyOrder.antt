@@ -6,7 +6,7 @@ use Rattle.std.proofs.lemmas.List.{length-map}
 use Rattle.std.proofs.lemmas.List.Elements.{filter_map-append}
 use Rattle.std.proofs.lemmas.Bool.{eq-eqb, or_left, or_right}
 use Rattle.spec_image.specs.Image.{Image, Index, byte}
-use Rattle.spec_format.specs.Headers.{CountsAs, count_of}
+use Rattle.spec_format.specs.Headers.{CountsAs, index_count_of}
 use Rattle.spec_format.proofs.Counts.{counts-as, its-version}
 use Rattle.spec_format.specs.BlockFiles.{is_among}
 use Rattle.blk_model.specs.State.{State, IsValidState}
@@ -62,7 +62,7 @@ module _ (image : Image) (m : State) (y : Layout) (numbers : List ℕ) (rep : Re
     counted = λ n linked. subst (λ (ls : List Loaded). CountersAgree image (flat_map words_of ls) n) both (tidy.counted n linked);
     index = record {
       tail = rep.list.tail_is ∙ ap (last_or 0) (sym (nodes-are (order m y) (λ w h. h)));
-      counts = subst (λ (n : ℕ). CountsAs n (sum_by charge_of (loaded_at y (order m y))) (count_of (byte image Index))) (sym long) (counts-as (byte image Index) (length m.uses) (sum_by charge_of (loaded_at y (order m y))) tidy.counts);
+      counts = subst (λ (n : ℕ). CountsAs n (sum_by charge_of (loaded_at y (order m y))) (index_count_of (byte image Index))) (sym long) (counts-as (byte image Index) (length m.uses) (sum_by charge_of (loaded_at y (order m y))) tidy.counts);
     };
     sealed = subst (λ (ls : List Loaded). AllByRecursion (AreSealed image) ls) both (sealed-all (order m y ++ doomed_nodes y numbers));
   }

@@ -1,7 +1,7 @@
 use Rattle.std.proofs.Common.{◌≡◌, ◌∙◌, List, ℕ, length, ap, sym, arith}
 use Rattle.std.proofs.lemmas.List.{length-map}
 use Rattle.clap.specs.Words.{found_of}
-use Rattle.blk_args.specs.Apart.{parts_in, ordinary_words}
+use Rattle.blk_args.specs.Apart.{parts_read, ordinary_words}
 use Rattle.std.specs.Borrow.{Bor}
 use Rattle.blk_args.specs.Words.{argument_bytes}
 use Rattle.blk_args.proofs.Getting.{gives, no_words_read, parts_are, value_read, words_read}
@@ -23,4 +23,4 @@ returns c =
       | in-Some w ↦ ap ordinary_words w.ordinary-is ∙ w.ordinary_of-ordinary.ensures ∙ words_read (found_of c.in-Ok.matches) c.get_strs.result w.in-Some.words g.parts.ordinary c.get_strs.ensures g.shows.ordinary w.in-Some.is
       | in-None w ↦ ap ordinary_words w.ordinary-is ∙ sym (no_words_read (found_of c.in-Ok.matches) c.get_strs.result g.parts.ordinary c.get_strs.ensures g.shows.ordinary w.in-None.is)
     ] in
-    g.are ∙ parts_are (parts_in (record { max = c.value_of.result; items = c.value_of-2.result; ordinary = c.match-get_strs.ordinary })) g.parts max items ordinary
+    g.are ∙ parts_are (parts_read (record { max = c.value_of.result; items = c.value_of-2.result; ordinary = c.match-get_strs.ordinary })) g.parts max items ordinary

@@ -1,10 +1,10 @@
 use Rattle.std.proofs.Common.{ℕ, [], ◌∷◌, map, codes, ap, ◌∙◌}
 use Rattle.blk_inspect.specs.Findings.{word_said}
-use Rattle.blk_inspect.specs.Texts.{index_words}
+use Rattle.blk_inspect.specs.Texts.{named_index_words}
 use Rattle.blk_inspect.proofs.heads.index_words.Goals as goal
 
 pub returns : goal.returns
-unfolding index_words
+unfolding named_index_words
 returns c =
     let w1 = c.named.ensures ∙ ap (λ (w : ℕ). (codes "magic", w)) c.magic.ensures in
     let w2 = c.named-2.ensures ∙ ap (λ (w : ℕ). (codes "version", w)) c.version.ensures in

@@ -8,7 +8,7 @@ use Rattle.blk_io.specs.Faults.{IsShort}
 use Rattle.blk_io.proofs.Carried.{if_damaged_weaker}
 use Rattle.blk_audit.proofs.Carrying.{converted}
 use Rattle.blk_inspect.specs.Findings.{findings_text, word_said}
-use Rattle.blk_inspect.specs.Texts.{index_text, index_words, named_word_line, words_text}
+use Rattle.blk_inspect.specs.Texts.{index_text, named_index_words, named_word_line, words_text}
 use Rattle.blk_inspect.proofs.HeadWords.{index_read}
 use Rattle.blk_inspect.proofs.heads.read_index.Goals as goal
 
@@ -16,7 +16,7 @@ pub returns-clause-found : goal.returns-clause-found
 unfolding findings_text index_text
 returns-clause-found g c image there =
     sym (flat_map-map (λ word. named_word_line word.0 word.1) word_said c.in_ok-words.words.items)
-    ∙ ap words_text (c.in_ok-words.ensures ∙ ap (λ (l : List ℕ). index_words (content l)) c.new.ensures ∙ index_read (byte image Index) c.read_exact.new.out (c.in_ok-read_exact.ensures.bytes image there))
+    ∙ ap words_text (c.in_ok-words.ensures ∙ ap (λ (l : List ℕ). named_index_words (content l)) c.new.ensures ∙ index_read (byte image Index) c.read_exact.new.out (c.in_ok-read_exact.ensures.bytes image there))
 
 pub returns-in_err-read_exact-clause-damaged : goal.returns-in_err-read_exact-clause-damaged
 returns-in_err-read_exact-clause-damaged g c =

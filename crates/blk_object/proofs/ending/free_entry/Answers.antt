@@ -9,7 +9,7 @@ use Rattle.blk_io.proofs.Carried.{carried, if_damaged_weaker}
 use Rattle.spec_folder.specs.Sound.{words_of}
 use Rattle.blk_disk.specs.Open.{IsOpen}
 use Rattle.blk_chain.proofs.Heads.{names-parts}
-use Rattle.blk_object.specs.Freeing.{AreFreeable, AreGoing, Removes, words_at}
+use Rattle.blk_object.specs.Freeing.{AreFreeable, AreGoing, Removes, words_among}
 use Rattle.blk_object.proofs.FreedPlaces.{none-going}
 use Rattle.blk_object.proofs.ending.free_entry.Goals as goal
 
@@ -48,12 +48,12 @@ returns-clause-frees g c =
     record {
       freed = on_ok_weaker c.free_owned.result
           (λ freed from there loaded lies.
-          let words : words_at c.in_ok-owned.owned.places ≡ words_of loaded = c.in_ok-owned.ensures.words from there loaded lies.lies in
+          let words : words_among c.in_ok-owned.owned.places ≡ words_of loaded = c.in_ok-owned.ensures.words from there loaded lies.lies in
           subst (λ ws. ForSome (g.F.Folder.told c.free_owned.new.folder).files (Removes ws from)) words
           (freed from (ap (λ (t : Told). t.files) c.in_ok-owned.ensures.reads.stays ∙ there) (subst (λ ws. AreFreeable ws from) (sym words) lies.freeable)))
           c.free_owned.ensures.freed;
       stops = λ from there loaded lies.
-          let words : words_at c.in_ok-owned.owned.places ≡ words_of loaded = c.in_ok-owned.ensures.words from there loaded lies.lies in
+          let words : words_among c.in_ok-owned.owned.places ≡ words_of loaded = c.in_ok-owned.ensures.words from there loaded lies.lies in
           passes_stayed c.in_ok-owned.ensures.reads.stays
           (subst (λ ws. Passes mid (g.F.Folder.told c.free_owned.new.folder) (AreGoing ws from)) words
           (c.free_owned.ensures.stops from (ap (λ (t : Told). t.files) c.in_ok-owned.ensures.reads.stays ∙ there) (subst (λ ws. AreFreeable ws from) (sym words) lies.freeable)));

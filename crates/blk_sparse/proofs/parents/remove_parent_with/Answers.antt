@@ -9,7 +9,7 @@ use Rattle.blk_model.specs.Items.{part}
 use Rattle.blk_model.specs.Room.{parts_among}
 use Rattle.blk_stream.proofs.Joined.{told_then}
 use Rattle.std.proofs.lemmas.Result.{on_ok_weaker}
-use Rattle.blk_object.specs.Freeing.{words_at}
+use Rattle.blk_object.specs.Freeing.{words_among}
 use Rattle.blk_object.specs.RemovingObjects.{FindsEither}
 use Rattle.blk_object.proofs.Sessions.{then-session}
 use Rattle.blk_sparse.specs.Dropping.{IsCalledOverPrefix}
@@ -65,7 +65,7 @@ returns-clause-removed g c =
     let charge = by.charge m.lies.was (main-loads state layout unlinked number object c.args.key.now c.args.node c.args.found.now.entry c.args.found.now.before from m) in
     let words = by.words m.lies.was (main-loads state layout unlinked number object c.args.key.now c.args.node c.args.found.now.entry c.args.found.now.before from m) in
     let mid = told_then (g.F.Folder.told c.read_index.new.folder) (g.F.Folder.told c.take_main.new.folder) from (FindsEither state (doomed number state (Some object))) at (c.in_ok-take_main.ensures.stops from at state layout unlinked number object m.kept.entries m.here m.live (own-lies state layout unlinked number object c.args.key.now c.args.node c.args.found.now.entry c.args.found.now.before from m)) in
-    let left = parts-left state layout unlinked number object c.args.key.now c.args.node c.args.found.now.entry c.args.found.now.before from m (words_at c.args.owned.now.places) mid.image (ap (λ (ws : List ℕ). ws ++ unlinked) words) (c.in_ok-take_main.ensures.out from at state layout unlinked number object m.kept.entries m.here m.live (own-lies state layout unlinked number object c.args.key.now c.args.node c.args.found.now.entry c.args.found.now.before from m) m.kept.counters charge mid.image mid.is) in
+    let left = parts-left state layout unlinked number object c.args.key.now c.args.node c.args.found.now.entry c.args.found.now.before from m (words_among c.args.owned.now.places) mid.image (ap (λ (ws : List ℕ). ws ++ unlinked) words) (c.in_ok-take_main.ensures.out from at state layout unlinked number object m.kept.entries m.here m.live (own-lies state layout unlinked number object c.args.key.now c.args.node c.args.found.now.entry c.args.found.now.before from m) m.kept.counters charge mid.image mid.is) in
     let has = has-indexed state layout unlinked number object c.args.key.now c.args.node c.args.found.now.entry c.args.found.now.before from m c.in_ok-indexed.indexed (c.in_ok-indexed.ensures.signature from there m.lies.was m.index (main-loads state layout unlinked number object c.args.key.now c.args.node c.args.found.now.entry c.args.found.now.before from m) m.role) (c.in_ok-indexed.ensures.none from there m.lies.was m.index (main-loads state layout unlinked number object c.args.key.now c.args.node c.args.found.now.entry c.args.found.now.before from m) m.role) in
     gone-whole state layout unlinked number object c.args.key.now c.args.node c.args.found.now.entry c.args.found.now.before from m image (ends mid.image mid.is state layout _ _ unlinked number object left has image is))
     c.drop_and_free.ensures.out
@@ -79,7 +79,7 @@ returns-clause-session g c =
     let charge = by.charge m.lies.was (main-loads state layout unlinked number object c.args.key.now c.args.node c.args.found.now.entry c.args.found.now.before from m) in
     let words = by.words m.lies.was (main-loads state layout unlinked number object c.args.key.now c.args.node c.args.found.now.entry c.args.found.now.before from m) in
     let mid = told_then (g.F.Folder.told c.read_index.new.folder) (g.F.Folder.told c.take_main.new.folder) from (FindsEither state (doomed number state (Some object))) at (c.in_ok-take_main.ensures.stops from at state layout unlinked number object m.kept.entries m.here m.live (own-lies state layout unlinked number object c.args.key.now c.args.node c.args.found.now.entry c.args.found.now.before from m)) in
-    let left = parts-left state layout unlinked number object c.args.key.now c.args.node c.args.found.now.entry c.args.found.now.before from m (words_at c.args.owned.now.places) mid.image (ap (λ (ws : List ℕ). ws ++ unlinked) words) (c.in_ok-take_main.ensures.out from at state layout unlinked number object m.kept.entries m.here m.live (own-lies state layout unlinked number object c.args.key.now c.args.node c.args.found.now.entry c.args.found.now.before from m) m.kept.counters charge mid.image mid.is) in
+    let left = parts-left state layout unlinked number object c.args.key.now c.args.node c.args.found.now.entry c.args.found.now.before from m (words_among c.args.owned.now.places) mid.image (ap (λ (ws : List ℕ). ws ++ unlinked) words) (c.in_ok-take_main.ensures.out from at state layout unlinked number object m.kept.entries m.here m.live (own-lies state layout unlinked number object c.args.key.now c.args.node c.args.found.now.entry c.args.found.now.before from m) m.kept.counters charge mid.image mid.is) in
     let has = has-indexed state layout unlinked number object c.args.key.now c.args.node c.args.found.now.entry c.args.found.now.before from m c.in_ok-indexed.indexed (c.in_ok-indexed.ensures.signature from there m.lies.was m.index (main-loads state layout unlinked number object c.args.key.now c.args.node c.args.found.now.entry c.args.found.now.before from m) m.role) (c.in_ok-indexed.ensures.none from there m.lies.was m.index (main-loads state layout unlinked number object c.args.key.now c.args.node c.args.found.now.entry c.args.found.now.before from m) m.role) in
     then-session from mid.image image (c.in_ok-take_main.ensures.session from at state layout unlinked number object m.kept.entries m.here m.live (own-lies state layout unlinked number object c.args.key.now c.args.node c.args.found.now.entry c.args.found.now.before from m) mid.image mid.is) (ends mid.image mid.is state layout _ _ unlinked number object left has image is))
     c.drop_and_free.ensures.session
@@ -93,7 +93,7 @@ returns-clause-each g c =
     let charge = by.charge m.lies.was (main-loads state layout unlinked number object c.args.key.now c.args.node c.args.found.now.entry c.args.found.now.before from m) in
     let words = by.words m.lies.was (main-loads state layout unlinked number object c.args.key.now c.args.node c.args.found.now.entry c.args.found.now.before from m) in
     let mid = told_then (g.F.Folder.told c.read_index.new.folder) (g.F.Folder.told c.take_main.new.folder) from (FindsEither state (doomed number state (Some object))) at (c.in_ok-take_main.ensures.stops from at state layout unlinked number object m.kept.entries m.here m.live (own-lies state layout unlinked number object c.args.key.now c.args.node c.args.found.now.entry c.args.found.now.before from m)) in
-    let left = parts-left state layout unlinked number object c.args.key.now c.args.node c.args.found.now.entry c.args.found.now.before from m (words_at c.args.owned.now.places) mid.image (ap (λ (ws : List ℕ). ws ++ unlinked) words) (c.in_ok-take_main.ensures.out from at state layout unlinked number object m.kept.entries m.here m.live (own-lies state layout unlinked number object c.args.key.now c.args.node c.args.found.now.entry c.args.found.now.before from m) m.kept.counters charge mid.image mid.is) in
+    let left = parts-left state layout unlinked number object c.args.key.now c.args.node c.args.found.now.entry c.args.found.now.before from m (words_among c.args.owned.now.places) mid.image (ap (λ (ws : List ℕ). ws ++ unlinked) words) (c.in_ok-take_main.ensures.out from at state layout unlinked number object m.kept.entries m.here m.live (own-lies state layout unlinked number object c.args.key.now c.args.node c.args.found.now.entry c.args.found.now.before from m) m.kept.counters charge mid.image mid.is) in
     let has = has-indexed state layout unlinked number object c.args.key.now c.args.node c.args.found.now.entry c.args.found.now.before from m c.in_ok-indexed.indexed (c.in_ok-indexed.ensures.signature from there m.lies.was m.index (main-loads state layout unlinked number object c.args.key.now c.args.node c.args.found.now.entry c.args.found.now.before from m) m.role) (c.in_ok-indexed.ensures.none from there m.lies.was m.index (main-loads state layout unlinked number object c.args.key.now c.args.node c.args.found.now.entry c.args.found.now.before from m) m.role) in
     subst (λ (ns : List ℕ). FoldsTo (λ p x q. goal.E-step g p x tt q) c.args.each.now ns c.drop_and_free.new.each) (all-among c.args.key.now object.key state.uses) (ends mid.image mid.is state layout _ _ unlinked number object left has))
     c.drop_and_free.ensures.each
@@ -107,7 +107,7 @@ returns-clause-gone g c =
     let charge = by.charge m.lies.was (main-loads state layout unlinked number object c.args.key.now c.args.node c.args.found.now.entry c.args.found.now.before from m) in
     let words = by.words m.lies.was (main-loads state layout unlinked number object c.args.key.now c.args.node c.args.found.now.entry c.args.found.now.before from m) in
     let mid = told_then (g.F.Folder.told c.read_index.new.folder) (g.F.Folder.told c.take_main.new.folder) from (FindsEither state (doomed number state (Some object))) at (c.in_ok-take_main.ensures.stops from at state layout unlinked number object m.kept.entries m.here m.live (own-lies state layout unlinked number object c.args.key.now c.args.node c.args.found.now.entry c.args.found.now.before from m)) in
-    let left = parts-left state layout unlinked number object c.args.key.now c.args.node c.args.found.now.entry c.args.found.now.before from m (words_at c.args.owned.now.places) mid.image (ap (λ (ws : List ℕ). ws ++ unlinked) words) (c.in_ok-take_main.ensures.out from at state layout unlinked number object m.kept.entries m.here m.live (own-lies state layout unlinked number object c.args.key.now c.args.node c.args.found.now.entry c.args.found.now.before from m) m.kept.counters charge mid.image mid.is) in
+    let left = parts-left state layout unlinked number object c.args.key.now c.args.node c.args.found.now.entry c.args.found.now.before from m (words_among c.args.owned.now.places) mid.image (ap (λ (ws : List ℕ). ws ++ unlinked) words) (c.in_ok-take_main.ensures.out from at state layout unlinked number object m.kept.entries m.here m.live (own-lies state layout unlinked number object c.args.key.now c.args.node c.args.found.now.entry c.args.found.now.before from m) m.kept.counters charge mid.image mid.is) in
     let has = has-indexed state layout unlinked number object c.args.key.now c.args.node c.args.found.now.entry c.args.found.now.before from m c.in_ok-indexed.indexed (c.in_ok-indexed.ensures.signature from there m.lies.was m.index (main-loads state layout unlinked number object c.args.key.now c.args.node c.args.found.now.entry c.args.found.now.before from m) m.role) (c.in_ok-indexed.ensures.none from there m.lies.was m.index (main-loads state layout unlinked number object c.args.key.now c.args.node c.args.found.now.entry c.args.found.now.before from m) m.role) in
     group-told state layout unlinked number object c.args.key.now c.args.node c.args.found.now.entry c.args.found.now.before from m c.args.owned.now.charge gone charge (subst (λ (ns : List ℕ). AreGoneBeside layout (map (part c.args.key.now) ns) c.args.owned.now.charge gone) (all-among c.args.key.now object.key state.uses) (ends mid.image mid.is state layout _ _ unlinked number object left has)))
     c.drop_and_free.ensures.gone
@@ -119,7 +119,7 @@ returns-clause-front g c from there by state layout unlinked number object m =
     let charge = by.charge m.lies.was (main-loads state layout unlinked number object c.args.key.now c.args.node c.args.found.now.entry c.args.found.now.before from m) in
     let words = by.words m.lies.was (main-loads state layout unlinked number object c.args.key.now c.args.node c.args.found.now.entry c.args.found.now.before from m) in
     let mid = told_then (g.F.Folder.told c.read_index.new.folder) (g.F.Folder.told c.take_main.new.folder) from (FindsEither state (doomed number state (Some object))) at (c.in_ok-take_main.ensures.stops from at state layout unlinked number object m.kept.entries m.here m.live (own-lies state layout unlinked number object c.args.key.now c.args.node c.args.found.now.entry c.args.found.now.before from m)) in
-    let left = parts-left state layout unlinked number object c.args.key.now c.args.node c.args.found.now.entry c.args.found.now.before from m (words_at c.args.owned.now.places) mid.image (ap (λ (ws : List ℕ). ws ++ unlinked) words) (c.in_ok-take_main.ensures.out from at state layout unlinked number object m.kept.entries m.here m.live (own-lies state layout unlinked number object c.args.key.now c.args.node c.args.found.now.entry c.args.found.now.before from m) m.kept.counters charge mid.image mid.is) in
+    let left = parts-left state layout unlinked number object c.args.key.now c.args.node c.args.found.now.entry c.args.found.now.before from m (words_among c.args.owned.now.places) mid.image (ap (λ (ws : List ℕ). ws ++ unlinked) words) (c.in_ok-take_main.ensures.out from at state layout unlinked number object m.kept.entries m.here m.live (own-lies state layout unlinked number object c.args.key.now c.args.node c.args.found.now.entry c.args.found.now.before from m) m.kept.counters charge mid.image mid.is) in
     let has = has-indexed state layout unlinked number object c.args.key.now c.args.node c.args.found.now.entry c.args.found.now.before from m c.in_ok-indexed.indexed (c.in_ok-indexed.ensures.signature from there m.lies.was m.index (main-loads state layout unlinked number object c.args.key.now c.args.node c.args.found.now.entry c.args.found.now.before from m) m.role) (c.in_ok-indexed.ensures.none from there m.lies.was m.index (main-loads state layout unlinked number object c.args.key.now c.args.node c.args.found.now.entry c.args.found.now.before from m) m.role) in
     subst (λ (ns : List ℕ). IsCalledOverPrefix _ (λ p x q. goal.E-step g p x tt q) ns c.args.each.now c.drop_and_free.new.each) (all-among c.args.key.now object.key state.uses) (c.drop_and_free.ensures.front mid.image mid.is state layout _ _ unlinked number object left has)
 
@@ -130,7 +130,7 @@ returns-clause-stops g c from there by state layout unlinked number object m =
     let charge = by.charge m.lies.was (main-loads state layout unlinked number object c.args.key.now c.args.node c.args.found.now.entry c.args.found.now.before from m) in
     let words = by.words m.lies.was (main-loads state layout unlinked number object c.args.key.now c.args.node c.args.found.now.entry c.args.found.now.before from m) in
     let mid = told_then (g.F.Folder.told c.read_index.new.folder) (g.F.Folder.told c.take_main.new.folder) from (FindsEither state (doomed number state (Some object))) at (c.in_ok-take_main.ensures.stops from at state layout unlinked number object m.kept.entries m.here m.live (own-lies state layout unlinked number object c.args.key.now c.args.node c.args.found.now.entry c.args.found.now.before from m)) in
-    let left = parts-left state layout unlinked number object c.args.key.now c.args.node c.args.found.now.entry c.args.found.now.before from m (words_at c.args.owned.now.places) mid.image (ap (λ (ws : List ℕ). ws ++ unlinked) words) (c.in_ok-take_main.ensures.out from at state layout unlinked number object m.kept.entries m.here m.live (own-lies state layout unlinked number object c.args.key.now c.args.node c.args.found.now.entry c.args.found.now.before from m) m.kept.counters charge mid.image mid.is) in
+    let left = parts-left state layout unlinked number object c.args.key.now c.args.node c.args.found.now.entry c.args.found.now.before from m (words_among c.args.owned.now.places) mid.image (ap (λ (ws : List ℕ). ws ++ unlinked) words) (c.in_ok-take_main.ensures.out from at state layout unlinked number object m.kept.entries m.here m.live (own-lies state layout unlinked number object c.args.key.now c.args.node c.args.found.now.entry c.args.found.now.before from m) m.kept.counters charge mid.image mid.is) in
     let has = has-indexed state layout unlinked number object c.args.key.now c.args.node c.args.found.now.entry c.args.found.now.before from m c.in_ok-indexed.indexed (c.in_ok-indexed.ensures.signature from there m.lies.was m.index (main-loads state layout unlinked number object c.args.key.now c.args.node c.args.found.now.entry c.args.found.now.before from m) m.role) (c.in_ok-indexed.ensures.none from there m.lies.was m.index (main-loads state layout unlinked number object c.args.key.now c.args.node c.args.found.now.entry c.args.found.now.before from m) m.role) in
     passes_stayed stays (passes_then (c.in_ok-take_main.ensures.stops from at state layout unlinked number object m.kept.entries m.here m.live (own-lies state layout unlinked number object c.args.key.now c.args.node c.args.found.now.entry c.args.found.now.before from m)) (passes_weaker (c.drop_and_free.ensures.stops mid.image mid.is state layout _ _ unlinked number object left has) (λ image found. inr found) (λ image found. inr found)))
 
@@ -141,7 +141,7 @@ returns-clause-untold g c from there by state layout unlinked number object m =
     let charge = by.charge m.lies.was (main-loads state layout unlinked number object c.args.key.now c.args.node c.args.found.now.entry c.args.found.now.before from m) in
     let words = by.words m.lies.was (main-loads state layout unlinked number object c.args.key.now c.args.node c.args.found.now.entry c.args.found.now.before from m) in
     let mid = told_then (g.F.Folder.told c.read_index.new.folder) (g.F.Folder.told c.take_main.new.folder) from (FindsEither state (doomed number state (Some object))) at (c.in_ok-take_main.ensures.stops from at state layout unlinked number object m.kept.entries m.here m.live (own-lies state layout unlinked number object c.args.key.now c.args.node c.args.found.now.entry c.args.found.now.before from m)) in
-    let left = parts-left state layout unlinked number object c.args.key.now c.args.node c.args.found.now.entry c.args.found.now.before from m (words_at c.args.owned.now.places) mid.image (ap (λ (ws : List ℕ). ws ++ unlinked) words) (c.in_ok-take_main.ensures.out from at state layout unlinked number object m.kept.entries m.here m.live (own-lies state layout unlinked number object c.args.key.now c.args.node c.args.found.now.entry c.args.found.now.before from m) m.kept.counters charge mid.image mid.is) in
+    let left = parts-left state layout unlinked number object c.args.key.now c.args.node c.args.found.now.entry c.args.found.now.before from m (words_among c.args.owned.now.places) mid.image (ap (λ (ws : List ℕ). ws ++ unlinked) words) (c.in_ok-take_main.ensures.out from at state layout unlinked number object m.kept.entries m.here m.live (own-lies state layout unlinked number object c.args.key.now c.args.node c.args.found.now.entry c.args.found.now.before from m) m.kept.counters charge mid.image mid.is) in
     let has = has-indexed state layout unlinked number object c.args.key.now c.args.node c.args.found.now.entry c.args.found.now.before from m c.in_ok-indexed.indexed (c.in_ok-indexed.ensures.signature from there m.lies.was m.index (main-loads state layout unlinked number object c.args.key.now c.args.node c.args.found.now.entry c.args.found.now.before from m) m.role) (c.in_ok-indexed.ensures.none from there m.lies.was m.index (main-loads state layout unlinked number object c.args.key.now c.args.node c.args.found.now.entry c.args.found.now.before from m) m.role) in
     if_damaged_weaker c.drop_and_free.result _ _ (λ damage none. absurd (none-some (sym none ∙ mid.is))) (c.drop_and_free.ensures.untold mid.image mid.is state layout _ _ unlinked number object left has)
 

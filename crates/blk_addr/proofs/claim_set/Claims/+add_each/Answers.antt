@@ -1,6 +1,6 @@
 use Rattle.std.proofs.Common.{◌≡◌, ◌∷◌, ◌<◌, List, ℕ, [], length, refl, rules, true, sym, subst, ◌∙◌, ap, arith}
 use Rattle.std.proofs.lemmas.Bool.{eqb-true}
-use Rattle.blk_addr.specs.ClaimGroups.{AddsAll, are_free}
+use Rattle.blk_addr.specs.ClaimGroups.{AddsAll, are_claimable}
 use Rattle.blk_addr.specs.declared.claim_set.Claims.{Claims}
 use Rattle.blk_addr.proofs.ClaimGroupLemmas.{IsFirstFree, adds_first, adds_last, adds_none, first_free, first_still_free, others_free, still_free, taken_back}
 use Rattle.blk_addr.proofs.MeetLemmas.{split_first}
@@ -11,8 +11,8 @@ none_left [] few = refl
 none_left (w ∷ words) few = absurd (omega (arith, few))
 
 -- the first of free addresses is free with the others
-split_free : (claims : Claims) (words rest : List ℕ) (w : ℕ) → words ≡ w ∷ rest → are_free claims words ≡ true → IsFirstFree claims w rest
-split_free claims words rest w is free = first_free claims w rest (ap (are_free claims) (sym is) ∙ free)
+split_free : (claims : Claims) (words rest : List ℕ) (w : ℕ) → words ≡ w ∷ rest → are_claimable claims words ≡ true → IsFirstFree claims w rest
+split_free claims words rest w is free = first_free claims w rest (ap (are_claimable claims) (sym is) ∙ free)
 
 pub returns-in_default-clause-ok : goal.returns-in_default-clause-ok
 returns-in_default-clause-ok t c = adds_none c.args.self.now c.args.addrs.now (none_left c.args.addrs.now c.in_default.len_below)

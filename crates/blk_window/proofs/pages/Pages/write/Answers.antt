@@ -2,7 +2,7 @@ use Rattle.std.proofs.Common.{◌≡◌, refl, sym, ◌∙◌, ap, arith}
 use Rattle.std.specs.Option.{option_copied_mut}
 use Rattle.std.proofs.lemmas.List.{length-set}
 use Rattle.blk_io.specs.FileNames.{file_of}
-use Rattle.blk_window.specs.Held.{written}
+use Rattle.blk_window.specs.Held.{page_after_write}
 use Rattle.blk_window.specs.Slots.{seen}
 use Rattle.blk_window.specs.declared.pages.Pages.{Pages}
 use Rattle.blk_window.proofs.HeldLists.{sights, turned, turned-none, turns, turns_none, turns_left, turned_pages, slots_set}
@@ -13,7 +13,7 @@ use Rattle.blk_window.proofs.pages.Pages.write.Goals.{then-is_touched+in-Some, t
 use Rattle.blk_window.proofs.pages.Pages.write.Goals as goal
 
 pub loop-slot-init : goal.loop-slot-init
-loop-slot-init c = (refl, sym (turned-none (written (file_of c.args.file) c.args.at c.args.bytes.now) (sights seen c.args.self.now.slots.entries)))
+loop-slot-init c = (refl, sym (turned-none (page_after_write (file_of c.args.file) c.args.at c.args.bytes.now) (sights seen c.args.self.now.slots.entries)))
 
 pub tag-requires : goal.tag-requires
 tag-requires c = omega (arith, c.loop-slot-test.true, c.get-slot-end.ensures.value, c.cap.ensures, c.loop-slot.invariant.0)
@@ -40,7 +40,7 @@ loop-slot-preserved c =
     let old = c.args.self.now in
     let now = c.loop-slot.self in
     let k = c.loop-slot.slot-counter in
-    let change = written (file_of c.args.file) c.args.at c.args.bytes.now in
+    let change = page_after_write (file_of c.args.file) c.args.at c.args.bytes.now in
     elim c.if-is_touched.branch [
       | then-is_touched+in-Some w ↦ (
         ap (λ (p : Pages). p.slots.cap) w.self-is ∙ c.loop-slot.invariant.0,
@@ -64,4 +64,4 @@ returns-clause-held c =
     let old = c.args.self.now in
     let now = c.loop-slot.self in
     let all : c.loop-slot.slot-counter ≡ old.slots.cap = omega (arith, c.loop-slot.auto.slot-counter-end, c.loop-slot-test.false, c.get-slot-end.ensures.value, c.cap.ensures) in
-    turned_pages seen old.slots.cap (written (file_of c.args.file) c.args.at c.args.bytes.now) old.slots.entries now.slots.entries (slots_of old) (c.loop-slot.invariant.1 ∙ ap (λ n. turned n (written (file_of c.args.file) c.args.at c.args.bytes.now) (sights seen old.slots.entries)) all)
+    turned_pages seen old.slots.cap (page_after_write (file_of c.args.file) c.args.at c.args.bytes.now) old.slots.entries now.slots.entries (slots_of old) (c.loop-slot.invariant.1 ∙ ap (λ n. turned n (page_after_write (file_of c.args.file) c.args.at c.args.bytes.now) (sights seen old.slots.entries)) all)

@@ -2,8 +2,8 @@ use Rattle.std.proofs.Common.{ℕ, ◌/◌, ◌%◌, ◌∷◌, List, Option, fa
 use Rattle.std.specs.List.{All}
 use Rattle.std.specs.Option.{option_map_or}
 use Rattle.blk_io.specs.FileNames.{file_of}
-use Rattle.blk_window.specs.Held.{Page, HoldsFileBytes, is_page, is_held, dropped}
-use Rattle.blk_window.specs.Pages.{held_of, places_of}
+use Rattle.blk_window.specs.Held.{Page, HoldsFileBytes, is_page, is_held, pages_dropped}
+use Rattle.blk_window.specs.Pages.{held_of, places_of_pages}
 use Rattle.blk_window.specs.Slots.{seen, Copies}
 use Rattle.blk_window.proofs.Agreeing.{held_found, found_page, all_found, all_used, used_found, used_new, new_front, gives_bytes}
 use Rattle.blk_window.proofs.HeldLists.{shown}
@@ -17,7 +17,7 @@ invariant_of-self g c =
     let p = held_found (file_of c.args.file) (c.args.at / 4096) held (sym c.in-Some.ensures.exact) in
     record {
       agrees = λ image there.
-          subst (All (HoldsFileBytes image)) (sym (c.in-Some.ensures.used p.0 p.1)) (all_used (HoldsFileBytes image) (places_of w.pages) p.0 held (all_found (HoldsFileBytes image) (file_of c.args.file) (c.args.at / 4096) held p.0 (w.agrees image there) p.1) (w.agrees image there));
+          subst (All (HoldsFileBytes image)) (sym (c.in-Some.ensures.used p.0 p.1)) (all_used (HoldsFileBytes image) (places_of_pages w.pages) p.0 held (all_found (HoldsFileBytes image) (file_of c.args.file) (c.args.at / 4096) held p.0 (w.agrees image there) p.1) (w.agrees image there));
     }
 
 pub returns-in-Some-clause-bytes : goal.returns-in-Some-clause-bytes
@@ -49,8 +49,8 @@ returns-clause-used g c =
     record {
       page = p.0;
       is = used_new (file_of c.args.file) (c.args.at / 4096) held p.0 (sym c.in_default.ensures.exact) p.2;
-      front = c.put.ensures.held p.0 p.1 ∙ ap (λ (l : List Page). p.0 ∷ l) (c.make_room-slot.ensures.held ∙ ap (λ (n : ℕ). dropped n (held_of c.read.new.self)) c.in_default.ensures.places ∙ ap (dropped (places_of w.pages)) c.in_default.ensures.none)
-          ∙ new_front (file_of c.args.file) (c.args.at / 4096) (places_of w.pages) held p.0 (sym c.in_default.ensures.exact) p.2;
+      front = c.put.ensures.held p.0 p.1 ∙ ap (λ (l : List Page). p.0 ∷ l) (c.make_room-slot.ensures.held ∙ ap (λ (n : ℕ). pages_dropped n (held_of c.read.new.self)) c.in_default.ensures.places ∙ ap (pages_dropped (places_of_pages w.pages)) c.in_default.ensures.none)
+          ∙ new_front (file_of c.args.file) (c.args.at / 4096) (places_of_pages w.pages) held p.0 (sym c.in_default.ensures.exact) p.2;
       many = copies.many;
     }
 
@@ -60,4 +60,4 @@ put-requires-clause-new g c = λ new there.
     let number = c.args.at / 4096 in
     let missing = ap (is_held file number) c.in_default.ensures.none ∙ sym c.in_default.ensures.exact in
     let named = sym (ap (λ (o : Option Page). option_map_or (is_page file number) o false) there) ∙ c.in_ok-load.ensures.shows in
-    ap (is_held new.file new.number) c.make_room-slot.ensures.held ∙ still_missing file number (places_of c.read.new.self) (held_of c.read.new.self) new missing named
+    ap (is_held new.file new.number) c.make_room-slot.ensures.held ∙ still_missing file number (places_of_pages c.read.new.self) (held_of c.read.new.self) new missing named

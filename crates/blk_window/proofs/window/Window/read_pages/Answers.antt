@@ -3,7 +3,7 @@ use borrow.Rule.Slice.PartMut.{put_mid}
 use Rattle.spec_image.specs.Told.{Told}
 use Rattle.blk_io.specs.FileNames.{file_of}
 use Rattle.blk_window.specs.Held.{page_at}
-use Rattle.blk_window.specs.Pages.{held_of, places_of}
+use Rattle.blk_window.specs.Pages.{held_of, places_of_pages}
 use Rattle.blk_window.proofs.GivenBytes.{Given, none_given, given_more, given_all, rest_more, put_part, put_length, part_length, gives_part}
 use Rattle.blk_window.proofs.ReadingPages.{Progress, Left, begins, asks_nothing, goes_on, ends, left_begins, next_of, next_held, left_goes_on, page_read, room_at}
 use Rattle.blk_window.proofs.PageSlots.{few_held}
@@ -21,8 +21,8 @@ loop-given-init g c =
       omega arith,
       refl,
       λ image there. none_given image file c.args.at c.args.out.now,
-      begins (places_of w.pages) file c.args.at n (held_of w.pages),
-      λ none. asks_nothing (places_of w.pages) file c.args.at n (held_of w.pages) (sym none),
+      begins (places_of_pages w.pages) file c.args.at n (held_of w.pages),
+      λ none. asks_nothing (places_of_pages w.pages) file c.args.at n (held_of w.pages) (sym none),
       λ held. (refl, λ some. left_begins file c.args.at n (held_of w.pages) held),
     )
 
@@ -35,7 +35,7 @@ returns-in_err-n-clause-held g c = λ held.
     let inv = c.loop-given.invariant in
     let less : given < n = omega (arith, c.loop-given-test.true, inv.1) in
     let left = (inv.9 held).1 less in
-    let p : Progress (places_of w.pages) file c.args.at n given (held_of w.pages) (held_of c.loop-given.self.pages) = inv.7 less in
+    let p : Progress (places_of_pages w.pages) file c.args.at n given (held_of w.pages) (held_of c.loop-given.self.pages) = inv.7 less in
     let there = next_held file c.args.at n (page_at (c.args.at + given)) (held_of c.loop-given.self.pages) (next_of file c.args.at n (page_at (c.args.at + given)) (held_of c.loop-given.self.pages) left (omega (arith, p.next, p.more))) in
     let never : true ≡ false → ⊥ = λ e. cc in
     absurd (never (sym there ∙ c.in_err-n.ensures.missing))
@@ -51,8 +51,8 @@ returns-then-n-room-clause-reads g c =
     let room : c.min-room.result ≡ room_at (c.args.at + given) (n - given) = omega (arith, c.min-room.ensures, c.room_at.ensures, inv.1) in
     let fits : given + c.min-room.result ≤ length c.loop-given.out = omega (arith, room, inv.1, less) in
     let size = part_length given c.min-room.result c.loop-given.out fits in
-    let r = page_read (places_of w.pages) (places_of c.loop-given.self.pages) file (c.args.at + given) (room_at (c.args.at + given) (n - given)) _ c.in_ok-n.n (held_of c.loop-given.self.pages) (held_of c.read_page.new.self.pages) inv.2 (size ∙ room) c.in_ok-n.ensures.used in
-    ends (places_of w.pages) file c.args.at n given c.in_ok-n.n (held_of w.pages) (held_of c.loop-given.self.pages) (held_of c.read_page.new.self.pages) (inv.7 less) less (inl (omega (arith, room, c.if-n-room.true))) r
+    let r = page_read (places_of_pages w.pages) (places_of_pages c.loop-given.self.pages) file (c.args.at + given) (room_at (c.args.at + given) (n - given)) _ c.in_ok-n.n (held_of c.loop-given.self.pages) (held_of c.read_page.new.self.pages) inv.2 (size ∙ room) c.in_ok-n.ensures.used in
+    ends (places_of_pages w.pages) file c.args.at n given c.in_ok-n.n (held_of w.pages) (held_of c.loop-given.self.pages) (held_of c.read_page.new.self.pages) (inv.7 less) less (inl (omega (arith, room, c.if-n-room.true))) r
 
 pub returns-then-n-room-clause-bytes : goal.returns-then-n-room-clause-bytes
 returns-then-n-room-clause-bytes g c = λ image there.
@@ -78,7 +78,7 @@ returns-then-n-room-clause-held g c = λ held.
     let inv = c.loop-given.invariant in
     let less : given < n = omega (arith, c.loop-given-test.true, inv.1) in
     let left = (inv.9 held).1 less in
-    let p : Progress (places_of w.pages) file c.args.at n given (held_of w.pages) (held_of c.loop-given.self.pages) = inv.7 less in
+    let p : Progress (places_of_pages w.pages) file c.args.at n given (held_of w.pages) (held_of c.loop-given.self.pages) = inv.7 less in
     let there = next_held file c.args.at n (page_at (c.args.at + given)) (held_of c.loop-given.self.pages) (next_of file c.args.at n (page_at (c.args.at + given)) (held_of c.loop-given.self.pages) left (omega (arith, p.next, p.more))) in
     (refl, (c.in_ok-n.ensures.held there).1 ∙ (inv.9 held).0)
 
@@ -93,12 +93,12 @@ loop-given-preserved g c =
     let room : c.min-room.result ≡ room_at (c.args.at + given) (n - given) = omega (arith, c.min-room.ensures, c.room_at.ensures, inv.1) in
     let fits : given + c.min-room.result ≤ length c.loop-given.out = omega (arith, room, inv.1, less) in
     let size = part_length given c.min-room.result c.loop-given.out fits in
-    let r = page_read (places_of w.pages) (places_of c.loop-given.self.pages) file (c.args.at + given) (room_at (c.args.at + given) (n - given)) _ c.in_ok-n.n (held_of c.loop-given.self.pages) (held_of c.read_page.new.self.pages) inv.2 (size ∙ room) c.in_ok-n.ensures.used in
+    let r = page_read (places_of_pages w.pages) (places_of_pages c.loop-given.self.pages) file (c.args.at + given) (room_at (c.args.at + given) (n - given)) _ c.in_ok-n.n (held_of c.loop-given.self.pages) (held_of c.read_page.new.self.pages) inv.2 (size ∙ room) c.in_ok-n.ensures.used in
     let all : c.in_ok-n.n ≡ c.min-room.result = omega (arith, c.if-n-room.false, c.in_ok-n.ensures.within, size) in
     let long : length c.read_page.new.out ≡ c.min-room.result = omega (arith, c.read_page.auto.out, size) in
     let part = put_part given c.min-room.result c.loop-given.out c.read_page.new.out fits in
     let whole : length (put_mid given (given + c.min-room.result - given) c.loop-given.out c.read_page.new.out) ≡ length c.loop-given.out = put_length given c.min-room.result c.loop-given.out c.read_page.new.out fits long in
-    let p : Progress (places_of w.pages) file c.args.at n given (held_of w.pages) (held_of c.loop-given.self.pages) = inv.7 less in (
+    let p : Progress (places_of_pages w.pages) file c.args.at n given (held_of w.pages) (held_of c.loop-given.self.pages) = inv.7 less in (
       omega (arith, whole, fits),
       whole ∙ inv.1,
       c.in_ok-n.ensures.places ∙ inv.2,
@@ -109,15 +109,15 @@ loop-given-preserved g c =
           let piece = gives_part image file (c.args.at + given) given c.min-room.result c.in_ok-n.n c.loop-given.out c.read_page.new.out (c.in_ok-n.ensures.bytes image (ap (λ (t : Told). t.files) inv.3 ∙ there)) in
           subst (λ k. Given image file c.args.at (given + k) (put_mid given (given + c.min-room.result - given) c.loop-given.out c.read_page.new.out)) all
           (given_more image file c.args.at n given c.min-room.result c.in_ok-n.n c.loop-given.out c.read_page.new.out _ (inv.6 image there) inv.1 (omega (arith, fits, inv.1)) piece long part all),
-      λ more. subst (λ k. Progress (places_of w.pages) file c.args.at n (given + k) (held_of w.pages) (held_of c.read_page.new.self.pages)) all
-          (goes_on (places_of w.pages) file c.args.at n given c.in_ok-n.n (held_of w.pages) (held_of c.loop-given.self.pages) (held_of c.read_page.new.self.pages) p less (all ∙ room) (omega (arith, all, more)) r),
-      λ end. ends (places_of w.pages) file c.args.at n given c.in_ok-n.n (held_of w.pages) (held_of c.loop-given.self.pages) (held_of c.read_page.new.self.pages) p less (inr (omega (arith, all, end))) r,
+      λ more. subst (λ k. Progress (places_of_pages w.pages) file c.args.at n (given + k) (held_of w.pages) (held_of c.read_page.new.self.pages)) all
+          (goes_on (places_of_pages w.pages) file c.args.at n given c.in_ok-n.n (held_of w.pages) (held_of c.loop-given.self.pages) (held_of c.read_page.new.self.pages) p less (all ∙ room) (omega (arith, all, more)) r),
+      λ end. ends (places_of_pages w.pages) file c.args.at n given c.in_ok-n.n (held_of w.pages) (held_of c.loop-given.self.pages) (held_of c.read_page.new.self.pages) p less (inr (omega (arith, all, end))) r,
       λ held.
           let left = (inv.9 held).1 less in
           let x = next_of file c.args.at n (page_at (c.args.at + given)) (held_of c.loop-given.self.pages) left (omega (arith, p.next, p.more)) in
           let there = next_held file c.args.at n (page_at (c.args.at + given)) (held_of c.loop-given.self.pages) x in (
             (c.in_ok-n.ensures.held there).1 ∙ (inv.9 held).0,
             λ more. subst (λ k. Left file c.args.at n (page_at (c.args.at + (given + k))) (held_of c.read_page.new.self.pages)) all
-                (left_goes_on (places_of w.pages) file c.args.at n given c.in_ok-n.n (held_of c.loop-given.self.pages) (held_of c.read_page.new.self.pages) x (subst (λ k. length (held_of c.loop-given.self.pages) ≤ k) inv.2 (few_held c.loop-given.self.pages)) (all ∙ room) (omega (arith, all, more)) r),
+                (left_goes_on (places_of_pages w.pages) file c.args.at n given c.in_ok-n.n (held_of c.loop-given.self.pages) (held_of c.read_page.new.self.pages) x (subst (λ k. length (held_of c.loop-given.self.pages) ≤ k) inv.2 (few_held c.loop-given.self.pages)) (all ∙ room) (omega (arith, all, more)) r),
           ),
     )

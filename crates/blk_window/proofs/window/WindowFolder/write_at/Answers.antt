@@ -3,7 +3,7 @@ use Rattle.std.specs.List.{All, filter_map}
 use Rattle.spec_image.specs.Image.{Image}
 use Rattle.spec_image.specs.Steps.{words}
 use Rattle.blk_io.specs.FileNames.{file_of}
-use Rattle.blk_window.specs.Held.{HoldsFileBytes, written}
+use Rattle.blk_window.specs.Held.{HoldsFileBytes, page_after_write}
 use Rattle.blk_window.specs.Pages.{held_of}
 use Rattle.blk_window.proofs.Changing.{agree_written, none_dropped, before, part_stays, agree_part}
 use Rattle.blk_window.proofs.window.WindowFolder.write_at.Goals as goal
@@ -14,7 +14,7 @@ invariant_of-self g c =
     record {
       agrees = λ image there.
           let old = before (g.F.Folder.told w.inner) (g.F.Folder.told c.write_at.new.self) (words (file_of c.args.file) c.args.at c.args.bytes.now) image c.in-Ok.ensures.steps there in
-          subst (All (HoldsFileBytes image)) (sym c.write.ensures.held) (subst (λ (i : Image). All (HoldsFileBytes i) (filter_map (written (file_of c.args.file) c.args.at c.args.bytes.now) (held_of w.pages))) (sym old.2) (agree_written (file_of c.args.file) c.args.at c.args.bytes.now (held_of w.pages) old.0 (w.agrees old.0 old.1)));
+          subst (All (HoldsFileBytes image)) (sym c.write.ensures.held) (subst (λ (i : Image). All (HoldsFileBytes i) (filter_map (page_after_write (file_of c.args.file) c.args.at c.args.bytes.now) (held_of w.pages))) (sym old.2) (agree_written (file_of c.args.file) c.args.at c.args.bytes.now (held_of w.pages) old.0 (w.agrees old.0 old.1)));
     }
 
 pub invariant_of-self-in-Err : goal.invariant_of-self-in-Err
