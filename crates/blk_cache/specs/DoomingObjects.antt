@@ -73,8 +73,8 @@ abbrev pub FindsDoomTarget : (key : List ℕ) → Option Target → Image → Ty
 FindsDoomTarget key answer image = (state : State) (layout : Layout) (unlinked : List ℕ) → KeepsUncounted state layout unlinked image → IsDoomTarget state layout key answer
 
 -- P holds of each live sparse object that no handle names and that has this key, this node and the record that was found
-abbrev pub ForEachUnheld : (key : List ℕ) → (node : ℕ) → Found → Image → ObjectClause → Type 0
-ForEachUnheld key node found from P = ForEachParent key node found.entry found.before from P
+abbrev pub ForEachUnheldParent : (key : List ℕ) → (node : ℕ) → Found → Image → ObjectClause → Type 0
+ForEachUnheldParent key node found from P = ForEachParent key node found.entry found.before from P
 
 -- a live object that a handle names has this node and this record
 pub record LiesOpen (state : State) (layout : Layout) (number : ℕ) (object : Object) (node entry : ℕ) : Type 0 where

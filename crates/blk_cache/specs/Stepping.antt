@@ -57,12 +57,12 @@ abbrev pub FrontBy : {S : Type 0} → (written : S → Option (List ℕ)) → (o
 FrontBy written old new cache told moment request = SaysPrefix (HoldsState cache) told moment request (written old) (written new)
 
 -- in each state that the cache keeps the command evicts nothing: no lines for it are right, whether the output failed or not
-abbrev pub PrintsNone : CommandClause
-PrintsNone cache told moment request = (failed : Bool) (written : Option (List ℕ)) → SaysEvicted cache told moment request failed failed written written
+abbrev pub EvictsNoLines : CommandClause
+EvictsNoLines cache told moment request = (failed : Bool) (written : Option (List ℕ)) → SaysEvicted cache told moment request failed failed written written
 
 -- no lines yet are right: they are a prefix of the lines of what the command evicts
-abbrev pub PrintsNoneYet : CommandClause
-PrintsNoneYet cache told moment request = (written : Option (List ℕ)) → SaysPrefix (HoldsState cache) told moment request written written
+abbrev pub NoLinesYet : CommandClause
+NoLinesYet cache told moment request = (written : Option (List ℕ)) → SaysPrefix (HoldsState cache) told moment request written written
 
 -- Where the folder failed.
 

@@ -17,7 +17,7 @@ ghost use Rattle.blk_cache.specs.CommandClauses.{DoneBy, ForCall, IsRefused, Kee
 ghost use Rattle.blk_cache.specs.Creating.{WhereNotRefused, WhereWantsRoom, AnswersFull, DecidesCreate, ForCreates, ForWantingRoom, NeverRefused};
 ghost use Rattle.blk_evict.specs.Looking.{IsLookUpDamage};
 ghost use Rattle.blk_evict.specs.RoomPrinting.{FailsWhereItRose};
-ghost use Rattle.blk_cache.specs.Stepping.{FrontBy, SaidBy, PrintsNone, PrintsNoneYet};
+ghost use Rattle.blk_cache.specs.Stepping.{FrontBy, SaidBy, EvictsNoLines, NoLinesYet};
 
 use crate::cache::Cache;
 use crate::covered::Covered;
@@ -125,9 +125,9 @@ impl Cache {
     fn has_no_room(&self, key: &[u8]) -> bool
         // Where a Create needs nothing but space it is refused then, and a refusal does and prints nothing.
         ensures does { result ≡ true → ForWantingRoom self.now key.now AnswersFull }
-        ensures says { result ≡ true → ForWantingRoom self.now key.now PrintsNone }
+        ensures says { result ≡ true → ForWantingRoom self.now key.now EvictsNoLines }
         ensures stops { (told : Told) (moment handle : ℕ) → MayStopAtEach (HoldsState self.now) told told moment (to_create handle key.now) }
-        ensures front { ForCreates self.now key.now PrintsNoneYet }
+        ensures front { ForCreates self.now key.now NoLinesYet }
 
         // Else it isn't refused.
         ensures passes { result ≡ false → ForWantingRoom self.now key.now NeverRefused }

@@ -10,7 +10,7 @@ ghost use Rattle.spec_format.specs.Names.{longest_name};
 ghost use Rattle.blk_disk.specs.Open.{IsOpen};
 ghost use Rattle.blk_disk.specs.Tables.{is_node_among, is_record_among, stands_among};
 ghost use Rattle.blk_object.specs.FailedChecks.{IsFailedCheck};
-ghost use Rattle.blk_cache.specs.DoomingObjects.{DoomedBy, DoomingBy, ForEachDoomTarget, ForEachOpenAt, ForEachWithKey, UndamagedAt, has_index, FindsDoomTarget, ForEachUnheld};
+ghost use Rattle.blk_cache.specs.DoomingObjects.{DoomedBy, DoomingBy, ForEachDoomTarget, ForEachOpenAt, ForEachWithKey, UndamagedAt, has_index, FindsDoomTarget, ForEachUnheldParent};
 ghost use Rattle.blk_evict.specs.Looking.{IsLookUpDamage, KeepsSomeState};
 ghost use Rattle.blk_evict.specs.NameBuffer.{name_buffer_len};
 ghost use Rattle.blk_sparse.specs.Clauses.{GoesWhole, GroupGone, MaybeDoomed, SessionStays, Undamaged};
@@ -239,13 +239,13 @@ fn remove_with_index<F: Folder>(
     requires short { length key.now ≤ longest_key }
     requires buffer { longest_name ≤ length buffer.old }
     requires is_open { ForSome (F.told folder.old).files (IsOpen files.now) }
-    ensures removed { OnOk result (ForTold (F.told folder.old) (ForEachUnheld key.now node found.now) (GoesWhole (F.told folder.new))) }
-    ensures gone { IfOk result (λ gone. ForTold (F.told folder.old) (ForEachUnheld key.now node found.now) (GroupGone key.now gone)) }
-    ensures session { OnOk result (ForTold (F.told folder.old) (ForEachUnheld key.now node found.now) (SessionStays (F.told folder.new))) }
-    ensures stops { ForTold (F.told folder.old) (ForEachUnheld key.now node found.now) (MaybeDoomed (F.told folder.old) (F.told folder.new)) }
+    ensures removed { OnOk result (ForTold (F.told folder.old) (ForEachUnheldParent key.now node found.now) (GoesWhole (F.told folder.new))) }
+    ensures gone { IfOk result (λ gone. ForTold (F.told folder.old) (ForEachUnheldParent key.now node found.now) (GroupGone key.now gone)) }
+    ensures session { OnOk result (ForTold (F.told folder.old) (ForEachUnheldParent key.now node found.now) (SessionStays (F.told folder.new))) }
+    ensures stops { ForTold (F.told folder.old) (ForEachUnheldParent key.now node found.now) (MaybeDoomed (F.told folder.old) (F.told folder.new)) }
     ensures is_open { ForSome (F.told folder.new).files (IsOpen files.now) }
     ensures damaged { IfDamaged result (IsFailedCheck files.now (F.told folder.new)) }
-    ensures untold { ForTold (F.told folder.old) (ForEachUnheld key.now node found.now) (Undamaged result (F.told folder.old)) }
+    ensures untold { ForTold (F.told folder.old) (ForEachUnheldParent key.now node found.now) (Undamaged result (F.told folder.old)) }
     ensures writes { MayWrite F.told F.faults folder.old folder.new (IfDevice result) }
 {
     let owned = read_owned(folder, files, found.entry)?;

@@ -77,8 +77,8 @@ CompletesScript result script limits seen =
     → IsCompleteScript result script (bounds_of limits) from readings (outside seen.old.folder seen.old.written left seen.old.clock) (outside seen.new.folder seen.new.written left seen.new.clock)))
 
 -- on an initialized folder of which a check fails: that check is printed, and nothing else is done; or memory ran out or the folder failed, and nothing is done
-abbrev pub ShowsUnread : Status → Seen → Type 0
-ShowsUnread result seen =
+abbrev pub ShowsDamagedUnread : Status → Seen → Type 0
+ShowsDamagedUnread result seen =
     ForSome seen.old.folder.files (λ from. (damage : Damage) → IsDamagedBy damage from → (left : Option (List ℕ))
     → OnDamage result damage seen.before seen.now (outside seen.old.folder seen.old.written left seen.old.clock) (outside seen.new.folder seen.new.written left seen.new.clock))
 
@@ -142,8 +142,8 @@ abbrev pub EndsKept : Cache → (old new : Told) → Type 0
 EndsKept cache old new = ForSome old.files (λ from. (state : State) → KeepsState cache state from → ForSome new.files EndsSession)
 
 -- where the cache kept a state of the folder, recovery gives the same after each single write
-abbrev pub HoldsKept : Cache → (old new : Told) → Type 0
-HoldsKept cache old new = ForSome old.files (λ from. (state : State) → KeepsState cache state from → PassesAny old new (HoldsStill from))
+abbrev pub FindsSameIfKept : Cache → (old new : Told) → Type 0
+FindsSameIfKept cache old new = ForSome old.files (λ from. (state : State) → KeepsState cache state from → PassesAny old new (HoldsStill from))
 
 -- a folder has the number of the session of another
 abbrev pub HasSessionOf : Image → Image → Type 0

@@ -22,7 +22,7 @@ ghost use Rattle.blk_run.specs.Playing.{StandsAt};
 ghost use Rattle.blk_run.specs.Session.{FixedRuns, outside, seen_as};
 ghost use Rattle.blk_run.specs.Statuses.{IfWhole};
 ghost use Rattle.blk_run.specs.Counting.{IsDoneOrSink};
-ghost use Rattle.blk_run.specs.RunClauses.{CauseOfRun, CompletesScript, EndsKept, HasSessionOf, HoldsKept, PlaysScript, ShowsUnread, opened_from, outside_unread};
+ghost use Rattle.blk_run.specs.RunClauses.{CauseOfRun, CompletesScript, EndsKept, HasSessionOf, FindsSameIfKept, PlaysScript, ShowsDamagedUnread, opened_from, outside_unread};
 
 use crate::ending::Status;
 use crate::printing::{print_damage, print_totals};
@@ -53,7 +53,7 @@ pub(crate) fn run_count<F: Folder, K: Sink, C: Clock>(
         (Rises (F.faults folder.old) (F.faults folder.new)) ⊥ (K.faults out.old) (K.faults out.new)) }
 
     // On an initialized folder of which a check fails that is printed, and no more is done.
-    ensures shows { ShowsUnread result (seen_as
+    ensures shows { ShowsDamagedUnread result (seen_as
         (outside_unread (F.told folder.old) (K.written out.old) (C.readings clock.old))
         (outside_unread (F.told folder.new) (K.written out.new) (C.readings clock.new))
         (Rises (F.faults folder.old) (F.faults folder.new)) ⊥ (K.faults out.old) (K.faults out.new)) }
@@ -121,7 +121,7 @@ fn count<F: Folder, K: Sink>(cache: Cache, folder: &mut F, out: &mut K) -> Statu
     ensures ended { IsDoneOrSink result → EndsKept cache (F.told folder.old) (F.told folder.new) }
     ensures session { IsDoneOrSink result → LeavesFrom (F.told folder.old) (F.told folder.new) HasSessionOf }
     ensures made { IsDoneOrSink result → LeavesFrom (F.told folder.old) (F.told folder.new) (λ from. WasMadeAt (create_time_of (byte from index))) }
-    ensures stops { HoldsKept cache (F.told folder.old) (F.told folder.new) }
+    ensures stops { FindsSameIfKept cache (F.told folder.old) (F.told folder.new) }
     ensures silent { (F.told folder.old).files ≡ None → (F.told folder.new).files ≡ None }
     ensures later { F.faults folder.old ≤ F.faults folder.new }
     ensures sink_later { GoesOn K.is K.faults out.old out.new }

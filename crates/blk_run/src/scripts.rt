@@ -16,7 +16,7 @@ ghost use Rattle.blk_run.specs.Statuses.{IfWhole};
 ghost use Rattle.blk_run.specs.Telling.{ReadsAs};
 ghost use Rattle.blk_disk.specs.Open.{IsOpen};
 ghost use Rattle.blk_cache.specs.CacheKeeping.{KeepsState};
-ghost use Rattle.blk_run.specs.RunClauses.{CauseOfRun, CauseOnceOpen, CompletesScript, FromHere, PlaysScript, ShowsUnread, WhereStands, opened_from, outside_unread};
+ghost use Rattle.blk_run.specs.RunClauses.{CauseOfRun, CauseOnceOpen, CompletesScript, FromHere, PlaysScript, ShowsDamagedUnread, WhereStands, opened_from, outside_unread};
 
 use crate::ending::Status;
 use crate::fixed::{Put, play_put, play_until_refused};
@@ -155,7 +155,7 @@ pub(crate) fn run_script<F: Folder, K: Sink, C: Clock>(
         (Rises (F.faults folder.old) (F.faults folder.new)) ⊥ (K.faults out.old) (K.faults out.new)) }
 
     // On an initialized folder of which a check fails that is printed, and no more is done.
-    ensures damage { ShowsUnread result (seen_as
+    ensures damage { ShowsDamagedUnread result (seen_as
         (outside_unread (F.told folder.old) (K.written out.old) (C.readings clock.old))
         (outside_unread (F.told folder.new) (K.written out.new) (C.readings clock.new))
         (Rises (F.faults folder.old) (F.faults folder.new)) ⊥ (K.faults out.old) (K.faults out.new)) }
