@@ -9,10 +9,10 @@ ghost use Rattle.blk_disk.specs.Open.{IsOpen};
 ghost use Rattle.blk_disk.specs.Tables.{is_node_among, stands_among};
 ghost use Rattle.blk_model.specs.declared.Answer.TheVariants as answer;
 ghost use Rattle.blk_model.specs.declared.Refusal.TheVariants as refusal;
-ghost use Rattle.blk_handles.specs.Bindings.{AreShared, binding_of, is_open};
+ghost use Rattle.blk_handles.specs.Bindings.{AreShared, binding_of, is_open, released_of};
 ghost use Rattle.blk_object.specs.Ending.{Cleans, FreesAll, MayEndObject};
 ghost use Rattle.blk_object.specs.FailedChecks.{IsFailedCheck};
-ghost use Rattle.blk_cache.specs.Closing.{CountsClosed, released_from};
+ghost use Rattle.blk_cache.specs.Closing.{CountsClosed};
 ghost use Rattle.blk_cache.specs.CommandClauses.{DoneBy, IsRefused, KeepsAny, OnlyNamesChange, SparedBy, StopsBy, AtAnyMoment};
 
 use crate::cache::Cache;
@@ -72,7 +72,7 @@ impl Cache {
     fn release(&mut self, handle: u16) -> Released
         requires bound { IsSome (binding_of self.old.handles handle) }
         ensures frees { self.new.handles ≡ slice_set self.old.handles handle None }
-        ensures answer { IfSome (binding_of self.old.handles handle) (λ object. result ≡ released_from self.old.handles self.new.handles object) }
+        ensures answer { IfSome (binding_of self.old.handles handle) (λ object. result ≡ released_of self.old.handles self.new.handles object) }
         ensures charged { self.new.open_bytes ≡ self.old.open_bytes }
         ensures others { OnlyNamesChange self.old self.new }
         ensures shared { AreShared self.new.handles }

@@ -1,11 +1,11 @@
 -- The contract of an inspection of a folder.
-use Rattle.std.specs.Prelude.{◌≡◌, ◌++◌, ◌⊎◌, ℕ, List, Result, Ok, Err, Some}
+use Rattle.std.specs.Prelude.{◌≡◌, ◌++◌, ◌⊎◌, ℕ, List, Result, Ok, Err}
 use Rattle.std.specs.declared.option.Option.{Option}
 use Rattle.std.specs.Option.{option_map}
 use Rattle.spec_image.specs.Image.{Image}
 use Rattle.spec_image.specs.Told.{Told}
-use Rattle.spec_format.specs.BlockFiles.{IsDamagedBy, IsUsable, first_block_damage}
-use Rattle.spec_format.specs.Headers.{HasWholeIndex, block_fields_length, header_length}
+use Rattle.spec_format.specs.BlockFiles.{IsDamagedBy, IsUsable}
+use Rattle.spec_format.specs.Headers.{block_fields_length, header_length}
 use Rattle.blk_io.specs.declared.fault.Damage.{Damage}
 use Rattle.blk_io.specs.declared.folder.FileId.TheVariants as names
 use Rattle.blk_io.specs.Faults.{IsShort, damage_of}
@@ -79,10 +79,6 @@ IfInspectSink (Err Memory) P = Unit {0}
 -- a read of the header of the index or of a block file gave too few bytes
 abbrev pub IsFileHeadDamage : Told → Damage → Type 0
 IsFileHeadDamage told damage = IsShort told names.Index 0 header_length damage ⊎ ((n : ℕ) × IsShort told (names.Block n) 0 block_fields_length damage)
-
--- if the index has its length, this is the first check of the block files that fails
-abbrev pub IsFirstBlocksCheck : Damage → Image → Type 0
-IsFirstBlocksCheck damage image = HasWholeIndex image → first_block_damage image ≡ Some (damage_of damage)
 
 -- a read of a header gave too few bytes, or a check of a scan failed
 abbrev pub IsInspectReadDamage : BlockFiles → Told → Damage → Type 0

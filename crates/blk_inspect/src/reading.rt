@@ -7,8 +7,9 @@ ghost use Rattle.spec_format.specs.Headers.{HasWholeIndex};
 ghost use Rattle.blk_io.specs.Faults.{damage_of, OkFor};
 ghost use Rattle.blk_disk.specs.Open.{IsOpen};
 ghost use Rattle.blk_audit.specs.Faults.{IfScanDamaged, IfScanDevice};
+ghost use Rattle.blk_scan.specs.Clauses.{IsFirstBlockDamage};
 ghost use Rattle.blk_inspect.specs.Findings.{findings_text, finished_text, question_text};
-ghost use Rattle.blk_inspect.specs.Inspecting.{IsFinishedDamage, IsInspectDamage, IsInspectReadDamage, IsFirstBlocksCheck};
+ghost use Rattle.blk_inspect.specs.Inspecting.{IsFinishedDamage, IsInspectDamage, IsInspectReadDamage};
 ghost use Rattle.blk_inspect.specs.Texts.{address_text, part_text, verdict_text};
 
 use crate::findings::Findings;
@@ -68,7 +69,7 @@ fn find_finished<F: Folder>(
     ensures found { OkFor result (F.told folder.old) (λ findings image. HasWholeIndex image → findings_text findings ≡ finished_text question.now image) }
     ensures checked { OkFor result (F.told folder.old) (λ _ image. first_block_damage image ≡ None) }
     ensures reads { ReadsOnly F.told F.faults folder.old folder.new (IfScanDevice result) }
-    ensures damaged { IfScanDamaged result (λ damage. ForSome (F.told folder.old).files (IsFirstBlocksCheck damage)) }
+    ensures damaged { IfScanDamaged result (λ damage. ForSome (F.told folder.old).files (IsFirstBlockDamage damage)) }
     ensures cause { IfScanDamaged result (IsFinishedDamage (F.told folder.old)) }
 {
     let files = BlockFiles::load(folder)?;

@@ -535,10 +535,6 @@ ListsPart now from = λ part. ForSome now.files (IsPartListed part.state part.la
 abbrev pub DurableListing : (old new : Told) → (from : Image) → UnlistedPart → Type 0
 DurableListing old new from = λ part. Recovers old new part.state
 
--- P holds of the folder before and the folder after
-abbrev pub LeavesThen : (old new : Told) → (P : Image → Image → Type 0) → Type 0
-LeavesThen old new P = ForSome old.files (λ from. ForSome new.files (P from))
-
 -- the record names the two streams, whatever bytes of these lengths they have, where its checksum matches or is absent
 abbrev pub NamesStreams : (entry size stored index : ℕ) → (from : Image) → Image → Type 0
 NamesStreams entry size stored index from = λ image. (bytes map : List ℕ) → length bytes ≡ size → length map ≡ part_index_length → RecordChecks entry from → HasStreamsNow entry (record { stored = bytes; index = map; stored_addr = stored; index_addr = index }) from image

@@ -1,7 +1,7 @@
 // The record of a part that doesn't exist yet, with its two streams.
 ghost use Rattle.std.specs.Prelude.{◌≡◌, ◌^◌, ◌<◌, IsTrue, None, OnOk, length};
 ghost use Rattle.std.specs.Option.{ForSome};
-ghost use Rattle.spec_image.specs.Told.{Passes, MayWrite};
+ghost use Rattle.spec_image.specs.Told.{Passes, MayWrite, LeavesFrom};
 ghost use Rattle.spec_format.specs.Address.{blocks_256, is_address, kind_of};
 ghost use Rattle.spec_format.specs.Sealed.{RecordChecks};
 ghost use Rattle.blk_io.specs.Faults.{IfDamaged, IfDevice, UndamagedWhere};
@@ -11,7 +11,7 @@ ghost use Rattle.blk_entry.specs.Writing.{FitsKey, HoldsLongKey, LiesApart};
 ghost use Rattle.law_state.specs.Changes.{StillFinds};
 ghost use Rattle.blk_object.specs.FailedChecks.{IsFailedCheck};
 ghost use Rattle.blk_object.specs.Making.{words_of_places};
-ghost use Rattle.blk_sparse.specs.Clauses.{LeavesThen, NamesStreams, OnlyRecordPasses, WritesStreams};
+ghost use Rattle.blk_sparse.specs.Clauses.{NamesStreams, OnlyRecordPasses, WritesStreams};
 ghost use Rattle.blk_sparse.specs.NewParts.{IsChildWritten, child_entry, words_of_part};
 
 use crate::new_part::PartPlaces;
@@ -36,7 +36,7 @@ fn write_child<F: Folder>(
     requires holds { ForSome (F.told folder.old).files (HoldsLongKey places.now.long_key (length name.now)) }
     requires apart { LiesApart places.now.entry places.now.long_key }
     requires is_open { ForSome (F.told folder.old).files (IsOpen files.now) }
-    ensures written { OnOk result (LeavesThen (F.told folder.old) (F.told folder.new) (IsChildWritten places.now name.now moment)) }
+    ensures written { OnOk result (LeavesFrom (F.told folder.old) (F.told folder.new) (IsChildWritten places.now name.now moment)) }
     ensures stops { ForSome (F.told folder.old).files (λ from. Passes (F.told folder.old) (F.told folder.new) (StillFinds (words_of_places places.now) from)) }
     ensures checks { OnOk result (ForSome (F.told folder.new).files (RecordChecks places.now.entry)) }
     ensures is_open { ForSome (F.told folder.new).files (IsOpen files.now) }
@@ -71,7 +71,7 @@ fn name_streams<F: Folder>(
     requires is_open { ForSome (F.told folder.old).files (IsOpen files.now) }
 
     // Where the addresses store streams of these lengths, the record has these streams in the end.
-    ensures named { OnOk result (LeavesThen (F.told folder.old) (F.told folder.new) (NamesStreams entry size stored index)) }
+    ensures named { OnOk result (LeavesFrom (F.told folder.old) (F.told folder.new) (NamesStreams entry size stored index)) }
 
     // At each word of the update of a record whose checksum matches or is absent, nothing else has changed.
     ensures stops { ForSome (F.told folder.old).files (OnlyRecordPasses entry (F.told folder.old) (F.told folder.new)) }
@@ -109,7 +109,7 @@ pub(crate) fn write_part<F: Folder>(
     requires is_open { ForSome (F.told folder.old).files (IsOpen files.now) }
 
     // Where the stored streams are those of a part of this name, each state that was kept with the part's words unlinked is kept so, and the part is there.
-    ensures written { OnOk result (LeavesThen (F.told folder.old) (F.told folder.new) (WritesStreams places.now name.now size)) }
+    ensures written { OnOk result (LeavesFrom (F.told folder.old) (F.told folder.new) (WritesStreams places.now name.now size)) }
 
     // At each word the old durable contents are recovered.
     ensures stops { ForSome (F.told folder.old).files (λ from. Passes (F.told folder.old) (F.told folder.new) (StillFinds (words_of_part places.now) from)) }

@@ -31,9 +31,9 @@ use Rattle.blk_ranges.specs.declared.names.ChildName.{ChildName}
 use Rattle.blk_ranges.specs.declared.part_map.PartMap.{PartMap}
 use Rattle.blk_ranges.specs.PartMaps.{index_of, map_signature}
 use Rattle.blk_audit.specs.Chaining.{reached_by, words_reached}
-use Rattle.blk_audit.specs.Faults.{IfScanDamaged}
 use Rattle.blk_audit.specs.ReadLists.{AreListsOf, IsSaidAt}
 use Rattle.blk_audit.specs.Records.{AreWordsOf, IsHashOfKey, IsRightWhereSaid, fields_said}
+use Rattle.blk_audit.specs.ScanClauses.{ScanUndamagedWhere}
 use Rattle.blk_audit.specs.Walking.{nodes_walked}
 use Rattle.blk_audit.specs.declared.fault.ScanFault.{ScanFault}
 use Rattle.blk_audit.specs.declared.named.WalkedNode.{WalkedNode}
@@ -91,18 +91,14 @@ WhereGiven told files so_far loaded key P =
 abbrev pub ChecksPass : {A : Type 0} → Result A Fault → Told → BlockFiles → (Image → Type 0) → Type 0
 ChecksPass result told files P = ForSome told.files (Agrees files) → ForSome told.files P → IfDamaged result (λ _. told.files ≡ None)
 
--- where P holds of the image of an observable folder, the answer of a scan is no failed check
-abbrev pub ScanPassesWhere : {A : Type 0} → Result A ScanFault → Told → (Image → Type 0) → Type 0
-ScanPassesWhere result told P = ForSome told.files P → IfScanDamaged result (λ _. told.files ≡ None)
-
 -- where the table is that of an observable folder, and P holds of its image, the answer of a scan is no failed check
 abbrev pub ScanPasses : {A : Type 0} → Result A ScanFault → Told → BlockFiles → (Image → Type 0) → Type 0
-ScanPasses result told files P = ForSome told.files (Agrees files) → ScanPassesWhere result told P
+ScanPasses result told files P = ForSome told.files (Agrees files) → ScanUndamagedWhere result told P
 
 -- where an observable folder has what was read, the table, the lists and this node, and P holds of its image, the answer of a scan is no failed check
 abbrev pub ScanPassesAt : {A : Type 0} → Result A ScanFault → Told → BlockFiles → Lists → WalkedNode → (Image → Type 0) → Type 0
 ScanPassesAt result told files lists node P =
-    ForSome told.files (λ image. Agrees files image) → ForSome told.files (λ image. AreListsOf image lists × IsSaidAt image node) → ScanPassesWhere result told P
+    ForSome told.files (λ image. Agrees files image) → ForSome told.files (λ image. AreListsOf image lists × IsSaidAt image node) → ScanUndamagedWhere result told P
 
 -- The verdict on a further entry.
 

@@ -5,7 +5,8 @@ ghost use Rattle.spec_image.specs.Told.{ReadsOnly};
 ghost use Rattle.blk_disk.specs.Tables.{Agrees};
 ghost use Rattle.blk_io.specs.Faults.{IfDamaged, IfDevice};
 ghost use Rattle.blk_audit.specs.Faults.{IfScanDamaged, IfScanDevice, IsRecordDamage};
-ghost use Rattle.blk_verdict.specs.VerdictClauses.{AddsIfUnlisted, AreUnlisted, SaysUnlisted, ScanPassesWhere, WhereRead};
+ghost use Rattle.blk_audit.specs.ScanClauses.{ScanUndamagedWhere};
+ghost use Rattle.blk_verdict.specs.VerdictClauses.{AddsIfUnlisted, AreUnlisted, SaysUnlisted, WhereRead};
 
 use blk_addr::{Addr, NoMemory};
 use blk_audit::{Lists, ScanFault};
@@ -27,7 +28,7 @@ pub fn unlisted<F: Folder>(
     ensures unlisted { IfOk result (λ found. WhereRead (F.told folder.old) files.now lists.now (AreUnlisted found.items)) }
     ensures reads { ReadsOnly F.told F.faults folder.old folder.new (IfScanDevice result) }
     ensures damaged { IfScanDamaged result (IsRecordDamage files.now (F.told folder.new)) }
-    ensures untold { ScanPassesWhere result (F.told folder.old) (Agrees files.now) }
+    ensures untold { ScanUndamagedWhere result (F.told folder.old) (Agrees files.now) }
 {
     let mut found = Vec::new(alloc);
     for i in 0..lists.reached.count() {

@@ -5,11 +5,12 @@ ghost use Rattle.spec_image.specs.Told.{ReadsOnly};
 ghost use Rattle.blk_entry.specs.Keys.{most_key};
 ghost use Rattle.blk_audit.specs.Faults.{IfScanDamaged, IfScanDevice};
 ghost use Rattle.blk_audit.specs.ReadLists.{AreListsOf};
+ghost use Rattle.blk_audit.specs.ScanClauses.{ScanUndamagedWhere};
 ghost use Rattle.blk_verdict.specs.Kept.{IsKeptInOrder};
 ghost use Rattle.blk_verdict.specs.Passes as passing;
 ghost use Rattle.blk_verdict.specs.Passes.{CanBeTried};
 ghost use Rattle.blk_verdict.specs.Reads.{IsCutRead};
-ghost use Rattle.blk_verdict.specs.VerdictClauses.{AllAreAnswered, AllAreTried, KeepsKeysTried, ScanPasses, ScanPassesWhere, TriesAt, TriesPass, WhereRead};
+ghost use Rattle.blk_verdict.specs.VerdictClauses.{AllAreAnswered, AllAreTried, KeepsKeysTried, ScanPasses, TriesAt, TriesPass, WhereRead};
 
 use crate::judging::judge_walked;
 use crate::kept::KeptSoFar;
@@ -91,7 +92,7 @@ pub(crate) fn try_pass<F: Folder>(
     ensures order { OnOk result (IsKeptInOrder files.now judged.new.kept) }
     ensures reads { ReadsOnly F.told F.faults folder.old folder.new (IfScanDevice result) }
     ensures short { IfScanDamaged result (IsCutRead files.now (F.told folder.old)) }
-    ensures untold { ScanPassesWhere result (F.told folder.old) (CanBeTried files.now lists.now judged.old.kept.kept.items) }
+    ensures untold { ScanUndamagedWhere result (F.told folder.old) (CanBeTried files.now lists.now judged.old.kept.kept.items) }
 {
     for i in 0..lists.walked.count() {
         try_at(folder, files, lists, i, children, judged, name)?;
@@ -116,7 +117,7 @@ fn try_at<F: Folder>(
     ensures order { OnOk result (IsKeptInOrder files.now judged.new.kept) }
     ensures reads { ReadsOnly F.told F.faults folder.old folder.new (IfScanDevice result) }
     ensures short { IfScanDamaged result (IsCutRead files.now (F.told folder.old)) }
-    ensures untold { ScanPassesWhere result (F.told folder.old) (CanBeTried files.now lists.now judged.old.kept.kept.items) }
+    ensures untold { ScanUndamagedWhere result (F.told folder.old) (CanBeTried files.now lists.now judged.old.kept.kept.items) }
 {
     let Some(here) = lists.node(i) else {
         return Ok(());
